@@ -16,6 +16,9 @@ use std::marker::PhantomData;
 use vino_base::Disk;
 
 /// Two tables of calls as one: the calls that `A` owns are `A`'s, all others `B`'s.
+///
+/// Who owns a call is asked where its piece is done, so that a table within another takes no call of
+/// its own.
 #[derive(Clone, Copy, Drop)]
 pub struct Beside<A, B>(PhantomData<(A, B)>);
 
@@ -36,6 +39,7 @@ impl<A: Calls, B: Calls> Calls for Beside<A, B> {
         (A.Meaning.meaning.early v images p c) (B.Meaning.meaning.early v images p c)
         (A.no_early_fault v images p c) (B.no_early_fault v images p c) };
 
+    #[inline(always)]
     fn owns(call: BareCall) -> bool {
         A::owns(call) || B::owns(call)
     }
@@ -79,6 +83,7 @@ impl<A: Calls, B: Calls> Calls for Beside<A, B> {
         }
     }
 
+    #[inline(always)]
     fn piece<P: Policy, D: Disk>(
         work: &mut Work,
         store: &mut Store<P>,

@@ -15,7 +15,9 @@ use kernel_model::BareNote;
 use kernel_steps::Notes;
 use running_kernel::Running;
 
-/// Says for what process p's call of this number waits, if something blocks it.
+/// Says for what process p's call of this number waits, if something blocks it. It stands apart,
+/// since most calls have ended.
+#[inline(never)]
 fn say_wait<C: Calls, B: Policy>(running: &Running<C, B>, p: u8, number: u32, notes: &mut Notes)
     requires { IsSoundFor C.Meaning.meaning running.now p }
     ensures said { (d : DiskSeen) → let x = placed_of running.now in
@@ -27,7 +29,9 @@ fn say_wait<C: Calls, B: Policy>(running: &Running<C, B>, p: u8, number: u32, no
     }
 }
 
-/// Says where process p's call stands, if it is still in flight: it waits, or it is in a graft.
+/// Says where process p's call stands, if it is still in flight: it waits, or it is in a graft. It is
+/// always inlined, since mostly nothing is said.
+#[inline(always)]
 pub(crate) fn say_last<C: Calls, B: Policy>(running: &Running<C, B>, p: u8, notes: &mut Notes)
     requires { IsSoundFor C.Meaning.meaning running.now p }
     ensures said { (d : DiskSeen) → let x = placed_of running.now in

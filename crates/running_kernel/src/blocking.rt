@@ -261,7 +261,9 @@ impl<C: Calls, B: Policy> Running<C, B> {
     }
 
     /// What blocks the next step of process p's call, if something does. The time that this takes
-    /// doesn't grow with what is held.
+    /// doesn't grow with what is held. It is always inlined, as each call that waits is asked for it
+    /// after each event.
+    #[inline(always)]
     pub fn blocker(&self, p: u8) -> Option<Blocking>
         requires { IsSoundFor C.Meaning.meaning self.now p }
         ensures { option_map blocker_of result

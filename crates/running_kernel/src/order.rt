@@ -92,7 +92,8 @@ fn put_at(list: &mut [Waiting], i: usize, waiting: Waiting)
     list[i] = waiting;
 }
 
-/// Takes out the entries of process p.
+/// Takes out the entries of process p. It is always inlined: mostly p has the only one.
+#[inline(always)]
 fn drop_entries(list: &mut ArrayVec<Waiting, PROCESSES>, p: u8)
     ensures { list.new.items ≡ filter (λ w. not (w.process == p)) list.old.items }
 {
@@ -169,6 +170,7 @@ impl Order {
     }
 
     /// The entries of process p leave.
+    #[inline(always)]
     pub fn leave(&mut self, p: u8)
         ensures { self.new ≡ filter (λ w. not (w.process == p)) self.old }
     {

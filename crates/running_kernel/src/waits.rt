@@ -39,6 +39,7 @@ fn is_same_call(a: Option<u32>, b: Option<u32>) -> bool
 }
 
 /// Whether two blockers, or none, are one.
+#[inline(always)]
 fn is_same_blocker(a: Option<Blocking>, b: Option<Blocking>) -> bool
     ensures { result ≡ same_blocker (option_map blocker_of a) (option_map blocker_of b) }
 {
@@ -54,7 +55,8 @@ fn is_same_blocker(a: Option<Blocking>, b: Option<Blocking>) -> bool
 }
 
 /// An entry with its blocker: it stays as it is where the blocker is the kept one, and else counts
-/// from 0.
+/// from 0. It is always inlined, as `Running::blocker` is.
+#[inline(always)]
 pub(crate) fn with_blocker(waiting: Waiting, blocker: Option<Blocking>) -> Waiting
     ensures value { entry_of result
         ≡ entry_with (entry_of waiting) (option_map blocker_of blocker) }
