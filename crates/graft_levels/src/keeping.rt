@@ -1,6 +1,6 @@
 //! What is kept of a graft's segment from one completed call of it to the next.
 
-ghost use Rattle.std.specs.Prelude.{◌≡◌, ℕ, ◌+◌, ◌<◌, ◌≤◌, ◌≢◌, Some, length, slice_index};
+ghost use Rattle.std.specs.Prelude.{◌≡◌, ℕ, ◌+◌, ◌%◌, ◌<◌, ◌≤◌, ◌≢◌, Some, length, slice_index};
 ghost use Rattle.kernel_model.specs.declared.Kind.TheVariants.{Records};
 ghost use Rattle.kernel_model.specs.Charges.{funds};
 ghost use Rattle.kernel_model.specs.Levels as model;
@@ -71,6 +71,7 @@ fn record_kept(undo: &mut UndoStack, kept: &Segments, at: GraftPoint)
 /// of what was kept before.
 pub fn keep<B: Policy>(level: &GraftLevel, base: u32, undo: &mut UndoStack, store: &mut Store<B>)
     requires inside { base + 4096 ≤ 524288 }
+    requires page { base % 4096 ≡ 0 }
     requires room { HasRoom undo.old }
     requires paid { funds
         (accounts_of store.old.accounts) level.now.owner level.now.point Records ≢ 0 }

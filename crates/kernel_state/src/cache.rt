@@ -219,15 +219,6 @@ impl<B: Policy> Store<B> {
         self.cache.clean(f);
     }
 
-    /// Copies out the bytes of frame f, which is in use.
-    pub fn copy_frame(&self, f: u8, to: &mut [u8; 512])
-        requires { in_use f self.now.cache ≡ true }
-        ensures { to.new ≡ bytes_of (cache_of self.now) f }
-    {
-        self.cache.lru();
-        to.copy_from_slice(self.ram.bytes(start_of(f), BLOCK_BYTES as u32));
-    }
-
     /// Bytes off to off + len of frame f, which is in use.
     pub fn bytes(&self, f: u8, off: u32, len: u32) -> Bytes
         requires in_cache { in_use f self.now.cache ≡ true }

@@ -1,6 +1,6 @@
 //! What a store keeps for grafts from one call of theirs to the next.
 
-ghost use Rattle.std.specs.Prelude.{◌≡◌, ◌<◌, ◌≤◌, ◌+◌, None, Some, IfSome, length, slice_index};
+ghost use Rattle.std.specs.Prelude.{◌≡◌, ◌<◌, ◌≤◌, ◌+◌, ◌%◌, None, Some, IfSome, length, slice_index};
 ghost use Rattle.std.specs.Option.{option_copied};
 ghost use Rattle.kernel_model.specs.Runs.{segment_of};
 ghost use Rattle.ram_space.specs.declared.TheConstants.{RAM_BYTES};
@@ -15,9 +15,10 @@ use graft_points::Policy;
 use segments::SEGMENT_BYTES;
 
 impl<B: Policy> Store<B> {
-    /// Keeps the 4,096 bytes of memory from a place on for the graft at a point.
+    /// Keeps the 4,096 bytes of memory from a place on, a page, for the graft at a point.
     pub fn keep_segment(&mut self, at: GraftPoint, base: u32)
-        requires { base + 4096 ≤ RAM_BYTES }
+        requires inside { base + 4096 ≤ RAM_BYTES }
+        requires page { base % 4096 ≡ 0 }
         ensures { Changes (with_kept at.process at.point
             (Some (segment_of base (slice_index self.old.ram)))) self.old self.new }
     {

@@ -1,11 +1,11 @@
 -- Memory: the segment of a level, and what is outside it.
-use Rattle.std.specs.Prelude.{ℕ, ◌+◌, ◌*◌, Bool, ◌&&◌, cond, nat_le, List, [], length, take, drop, slice_range}
+use Rattle.std.specs.Prelude.{ℕ, ◌+◌, ◌*◌, Bool, ◌&&◌, cond, nat_le, List, [], take, drop, slice_range}
 use Rattle.kernel_model.specs.World.{same_bytes}
 
--- two memories are the same before one place, and from another place on
+-- a memory is as it was before one place, and from another place on
 abbrev pub same_outside : (from to : ℕ) → (before after : List ℕ) → Bool
 same_outside from to before after =
-    same_bytes (take from before) (take from after) && same_bytes (drop to before) (drop to after)
+    same_bytes (take from after) (take from before) && same_bytes (drop to after) (drop to before)
 
 -- where the segment of a level begins in memory
 abbrev pub segment_begin : (process depth : ℕ) → ℕ
@@ -14,4 +14,4 @@ segment_begin process depth = 262144 + 4096 * (4 * process + depth)
 -- the segment that begins at this place; no byte where the memory ends before
 abbrev pub segment_in : (memory : List ℕ) → (from : ℕ) → List ℕ
 segment_in memory from =
-    cond (nat_le (from + 4096) (length memory)) (slice_range memory from (from + 4096)) []
+    cond (nat_le (from + 4096) 524288) (slice_range memory from (from + 4096)) []

@@ -1,11 +1,12 @@
 //! Memory: the segment of a level, and what is outside it before and after its instructions.
 
-ghost use Rattle.std.specs.Prelude.{◌≡◌, ◌≤◌, ◌++◌, length, take, drop, slice_range};
+ghost use Rattle.std.specs.Prelude.{◌≡◌, ◌≤◌, ◌+◌, ◌%◌, ◌++◌, length, take, drop, slice_range};
 ghost use Rattle.lab_levels.specs.Outside as spec;
 
 use crate::view::LevelRow;
 use kernel_model::NoMemory;
 use lab_weave::{append, append_with};
+use ram_space::{RAM_BYTES, Ram};
 use std::alloc::Global;
 
 /// Where the first segment begins in memory.
@@ -14,14 +15,14 @@ const FIRST_SEGMENT: usize = 262_144;
 /// The bytes of a segment.
 pub(crate) const SEGMENT_BYTES: usize = 4096;
 
-/// Whether two memories are the same before one place, and from another place on.
-fn same_outside(before: &[u8], after: &[u8], from: usize, to: usize) -> bool
+/// Whether a memory is as it was before one place, and from another place on.
+fn same_outside(before: &[u8], after: &Ram, from: usize, to: usize) -> bool
     requires order { from ≤ to }
-    requires before { to ≤ length before.now }
-    requires after { to ≤ length after.now }
+    requires inside { to ≤ RAM_BYTES }
+    requires whole { length before.now ≡ RAM_BYTES }
     ensures { result ≡ spec.same_outside from to before.now after.now }
 {
-    before[..from] == after[..from] && before[to..] == after[to..]
+    after.has(0, &before[..from]) && after.has(to as u32, &before[to..])
 }
 
 /// Where the segment of a level begins in memory.
@@ -33,28 +34,28 @@ fn segment_begin(level: &LevelRow) -> usize
 }
 
 /// The segment of a level in a memory; no byte where the memory ends before.
-pub fn segment_in<'a>(memory: &'a [u8], level: &LevelRow) -> &'a [u8]
+pub fn segment_in<'a>(memory: &'a Ram, level: &LevelRow) -> &'a [u8]
     ensures { result.now
         ≡ spec.segment_in memory.now (spec.segment_begin level.now.process level.now.depth) }
 {
     let from = segment_begin(level);
-    let to = from + SEGMENT_BYTES;
-    if to <= memory.len() {
-        &memory[from..to]
+    if from + SEGMENT_BYTES <= RAM_BYTES as usize {
+        memory.bytes(from as u32, SEGMENT_BYTES as u32)
     } else {
         &[]
     }
 }
 
-/// Takes over the bytes between two places of a memory.
-fn take_over(kept: &mut [u8], memory: &[u8], from: usize, to: usize)
-    requires order { from ≤ to }
-    requires kept { to ≤ length kept.old }
-    requires memory { to ≤ length memory.now }
-    ensures { kept.new
-        ≡ take from kept.old ++ slice_range memory.now from to ++ drop to kept.old }
+/// Takes over the segment of a memory that begins at a place.
+fn take_over(kept: &mut [u8], memory: &Ram, from: usize)
+    requires page { from % 4096 ≡ 0 }
+    requires inside { from + 4096 ≤ RAM_BYTES }
+    requires whole { length kept.old ≡ RAM_BYTES }
+    ensures { kept.new ≡ take from kept.old ++ slice_range memory.now from (from + 4096)
+        ++ drop (from + 4096) kept.old }
 {
-    kept[from..to].copy_from_slice(&memory[from..to]);
+    kept[from..from + SEGMENT_BYTES]
+        .copy_from_slice(memory.bytes(from as u32, SEGMENT_BYTES as u32));
 }
 
 /// Whether a level took an instruction between two moments, and went on.
@@ -84,13 +85,17 @@ impl Outside {
         }
     }
 
-    /// Keeps these bytes of the memory.
-    pub fn see(&mut self, memory: &[u8]) -> Result<(), NoMemory> {
-        if self.is_current && self.memory.len() == memory.len() {
+    /// Keeps the bytes of the memory.
+    pub fn see(&mut self, memory: &Ram) -> Result<(), NoMemory> {
+        if self.is_current && self.memory.len() == RAM_BYTES as usize {
             return Ok(());
         }
         self.memory.clear();
-        append(&mut self.memory, memory)
+        for page in 0..RAM_BYTES / SEGMENT_BYTES as u32 {
+            let bytes = memory.bytes(SEGMENT_BYTES as u32 * page, SEGMENT_BYTES as u32);
+            append(&mut self.memory, bytes)?;
+        }
+        Ok(())
     }
 
     /// Something was run, so the memory may be another one.
@@ -100,7 +105,7 @@ impl Outside {
 
     /// Compares the memory with what was seen last, if the innermost level of a process took an
     /// instruction and went on: these are that level before and after, and the memory now.
-    pub fn compare(&mut self, before: Option<LevelRow>, after: Option<LevelRow>, memory: &[u8]) {
+    pub fn compare(&mut self, before: Option<LevelRow>, after: Option<LevelRow>, memory: &Ram) {
         if let (Some(before), Some(after)) = (before, after) {
             if has_gone_on(&before, &after) {
                 self.compare_level(&after, memory);
@@ -110,15 +115,15 @@ impl Outside {
 
     /// Compares the memory outside the segment of a level with what was seen last. Where that is the
     /// same, the segment alone is taken over.
-    fn compare_level(&mut self, level: &LevelRow, memory: &[u8]) {
+    fn compare_level(&mut self, level: &LevelRow, memory: &Ram) {
         let from = segment_begin(level);
         let to = from + SEGMENT_BYTES;
-        if to > self.memory.len() || to > memory.len() {
+        if self.memory.len() != RAM_BYTES as usize || to > RAM_BYTES as usize {
             return;
         }
         self.compared = self.compared.saturating_add(1);
         if same_outside(self.memory.as_slice(), memory, from, to) {
-            take_over(&mut self.memory, memory, from, to);
+            take_over(&mut self.memory, memory, from);
             self.is_current = true;
         } else {
             self.changing = self.changing.saturating_add(1);

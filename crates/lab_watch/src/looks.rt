@@ -10,7 +10,7 @@ use graft_points::Policy;
 use kernel_core::{Kernel, RowPlace};
 use kernel_model::NoMemory;
 use lab_levels::{PROCESSES, REGISTERS, View};
-use ram_space::RAM_BYTES;
+use ram_space::Ram;
 use std::alloc::Global;
 use vino_base::Disk;
 use vino_top::AllCalls;
@@ -59,9 +59,9 @@ fn see_registers<B: Policy>(view: &mut View, kernel: &Kernel<AllCalls, B>) -> Re
     Ok(())
 }
 
-/// The bytes of the kernel's memory.
-pub(crate) fn memory_of<'a, B: Policy, D: Disk + Drop>(slow: &'a Slow<B, D>) -> &'a [u8] {
-    slow.session.kernel.running.store.ram.bytes(0, RAM_BYTES)
+/// The kernel's memory.
+pub(crate) fn memory_of<'a, B: Policy, D: Disk + Drop>(slow: &'a Slow<B, D>) -> &'a Ram {
+    &slow.session.kernel.running.store.ram
 }
 
 /// The images of the kernel.

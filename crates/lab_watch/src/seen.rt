@@ -6,6 +6,7 @@ use graft_loader::{Images, Loaded};
 use kernel_model::NoMemory;
 use lab_levels::{LEVELS, LevelRow, PROCESSES, View, append_instruction, append_level, segment_in};
 use lab_weave::{append, append_with};
+use ram_space::Ram;
 use std::alloc::Global;
 
 impl<'a> Watch<'a> {
@@ -27,7 +28,7 @@ impl<'a> Watch<'a> {
     }
 
     /// Follows a level that is there.
-    fn follow_level(&mut self, images: &Images, memory: &[u8], level: &LevelRow) {
+    fn follow_level(&mut self, images: &Images, memory: &Ram, level: &LevelRow) {
         let taken = self.instr_of(images, level);
         if self.seats.follow(level, taken) {
             let segment = segment_in(memory, level);
@@ -36,7 +37,7 @@ impl<'a> Watch<'a> {
     }
 
     /// Follows the levels of a process.
-    fn follow(&mut self, images: &Images, memory: &[u8], p: u8) {
+    fn follow(&mut self, images: &Images, memory: &Ram, p: u8) {
         for depth in 0..LEVELS {
             match self.view.level(p, depth) {
                 None => self.seats.leave(p, depth),
@@ -51,7 +52,7 @@ impl<'a> Watch<'a> {
         &mut self,
         alloc: Global,
         images: &Images,
-        memory: &[u8],
+        memory: &Ram,
         view: View,
     ) -> Result<(), NoMemory> {
         self.view = view;
@@ -95,7 +96,7 @@ impl<'a> Watch<'a> {
         &mut self,
         alloc: Global,
         images: &Images,
-        memory: &[u8],
+        memory: &Ram,
         p: u8,
     ) -> Result<(), NoMemory> {
         self.tell_changes(alloc, p, memory)?;
@@ -108,7 +109,7 @@ impl<'a> Watch<'a> {
         &mut self,
         alloc: Global,
         images: &Images,
-        memory: &[u8],
+        memory: &Ram,
         view: View,
         p: u8,
     ) -> Result<(), NoMemory> {

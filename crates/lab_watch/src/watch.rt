@@ -15,6 +15,7 @@ use lab_levels::{LevelRow, Origin, Outside, Seats, View, append_level, segment_i
 use lab_lines::{LineSink, Piece, pieces_of};
 use lab_text::{Item, Lowered};
 use lab_weave::{OwnLines, append, append_number, append_with, count_of, weave};
+use ram_space::Ram;
 use std::alloc::{AllocError, Global};
 use text_words::Parts;
 use vino_base::Disk;
@@ -118,7 +119,7 @@ impl<'a> Watch<'a> {
     }
 
     /// Tells what changed in the innermost level of a process, whose segment stands in this memory.
-    pub fn tell_changes(&mut self, alloc: Global, p: u8, memory: &[u8]) -> Result<(), NoMemory> {
+    pub fn tell_changes(&mut self, alloc: Global, p: u8, memory: &Ram) -> Result<(), NoMemory> {
         match self.view.innermost(p) {
             None => Ok(()),
             Some(level) => self.tell_level(alloc, &level, segment_in(memory, &level)),

@@ -1,8 +1,10 @@
 //! The memory of the kernel: 524,288 bytes, read and written by byte, by word and by piece.
 #![tactic(auto)]
 
-ghost use Rattle.std.specs.Prelude.{◌≡◌, ℕ, ◌+◌, ◌*◌, ◌≤◌, ◌<◌, ◌%◌, ◌++◌, ◌-◌, IfOk, length, replicate, take, drop, slice_index, slice_range, slice_set};
+ghost use Rattle.std.specs.Prelude.{◌≡◌, ℕ, ◌+◌, ◌*◌, ◌/◌, ◌≤◌, ◌<◌, ◌%◌, ◌++◌, ◌-◌, IfOk, length, nat_eq, replicate, take, drop, slice_index, slice_range, slice_set, vec_capacity};
+ghost use Rattle.std.specs.Cmp.Lexicographic.{pointwise};
 ghost use Rattle.std.specs.Int.{w32, from_le_bytes, to_le_bytes};
+ghost use Rattle.ram_space.specs.Pages.{ArePages, IsSpace, cleared, memory_of, put};
 
 use std::alloc::{AllocError, Global};
 use std::marker::Model;
@@ -14,30 +16,47 @@ pub const RAM_BYTES: u32 = 524_288;
 #[derive(Clone, Copy, Debug)]
 pub struct NoMemory;
 
+/// The bytes of a page.
+const PAGE_BYTES: usize = 4096;
+
+/// How many pages the memory has.
+const PAGES: usize = 128;
+
 /// The memory, which contracts see as the list of its bytes, each 0 to 255. Addresses count from 0.
+///
+/// Until a page is written, a page of zeros stands for it, which all such pages share: the memory
+/// for all is taken at first, but no byte of a page is written before it is needed.
 #[derive(Drop)]
 pub struct Ram {
+    /// The place of each page in `bytes`, counted in pages; 0 for one that wasn't written.
+    places: [u8; PAGES],
+    /// The page of zeros, and the pages that were written.
     bytes: Vec<u8>,
 }
 
 impl Model for Ram {
-    ghost use Rattle.std.specs.Prelude.{◌≡◌, ℕ, List, length};
+    ghost use Rattle.std.specs.Prelude.{ℕ, List, vec_capacity};
+    ghost use Rattle.ram_space.specs.Pages.{IsSpace, memory_of};
 
     ghost Value = { List ℕ };
 
-    ghost view = { λ r. r.bytes.items };
+    ghost view = { λ r. memory_of r.places r.bytes.items };
 
-    ghost invariant = { λ r. length r.bytes.items ≡ 524288 };
+    ghost invariant = { λ r. IsSpace r.places r.bytes.items (vec_capacity r.bytes) };
 }
 
 impl Ram {
-    /// Zeros.
+    /// Zeros. Takes all the memory that it ever does.
+    #[tactic(auto, using(crate::proofs::Pages::blank_space, crate::proofs::Pages::blank_byte, crate::proofs::Pages::blank_length,))]
     pub fn new(alloc: Global) -> Result<Ram, NoMemory>
         ensures zeros { IfOk result (λ r. (a : ℕ) → slice_index r a ≡ 0) }
         ensures size { IfOk result (λ r. length r ≡ RAM_BYTES) }
     {
-        match zeros(alloc, RAM_BYTES as usize) {
-            Ok(bytes) => Ok(Ram { bytes }),
+        match zero_page(alloc) {
+            Ok(bytes) => Ok(Ram {
+                places: no_places(),
+                bytes,
+            }),
             Err(_) => Err(NoMemory),
         }
     }
@@ -48,7 +67,7 @@ impl Ram {
         ensures value { result ≡ slice_index self.now a }
         ensures size { length self.now ≡ RAM_BYTES }
     {
-        self.bytes[a as usize]
+        byte_at(&self.places, &self.bytes, a)
     }
 
     /// Puts a byte at an address.
@@ -57,7 +76,7 @@ impl Ram {
         ensures value { self.new ≡ slice_set self.old a v }
         ensures size { length self.new ≡ RAM_BYTES }
     {
-        set_byte(&mut self.bytes, a as usize, v);
+        put_one(&mut self.places, &mut self.bytes, a, v);
     }
 
     /// The word of the four bytes from an address on, the lowest byte first. The address is a
@@ -68,7 +87,7 @@ impl Ram {
         ensures value { result ≡ from_le_bytes w32 (slice_range self.now a (a + 4)) }
         ensures size { length self.now ≡ RAM_BYTES }
     {
-        get_word(&self.bytes, a as usize)
+        word_at(&self.places, &self.bytes, a)
     }
 
     /// Puts a word in the four bytes from an address on, the lowest byte first. The address is a
@@ -79,7 +98,7 @@ impl Ram {
         ensures value { self.new ≡ take a self.old ++ to_le_bytes w32 v ++ drop (a + 4) self.old }
         ensures size { length self.new ≡ RAM_BYTES }
     {
-        set_piece(&mut self.bytes, a as usize, &v.to_le_bytes());
+        put_in_page(&mut self.places, &mut self.bytes, a, &v.to_le_bytes());
     }
 
     /// Copies bytes in, the first to an address.
@@ -89,10 +108,10 @@ impl Ram {
             ++ drop (a + length from.now) self.old }
         ensures size { length self.new ≡ RAM_BYTES }
     {
-        set_piece(&mut self.bytes, a as usize, from);
+        put_in_pages(&mut self.places, &mut self.bytes, a, from);
     }
 
-    /// Zeros from an address to another.
+    /// Zeros from an address to another. Pages that weren't written stay so.
     pub fn clear(&mut self, from: u32, to: u32)
         requires order { from ≤ to }
         requires inside { to ≤ RAM_BYTES }
@@ -100,33 +119,281 @@ impl Ram {
             ++ drop to self.old }
         ensures size { length self.new ≡ RAM_BYTES }
     {
-        clear_piece(&mut self.bytes, from as usize, to as usize);
+        clear_pages(&self.places, &mut self.bytes, from, to);
     }
 
-    /// The bytes from an address on, so many.
+    /// The bytes from an address on, so many, which lie in one page of 4,096 bytes.
     pub fn bytes(&self, a: u32, count: u32) -> &[u8]
-        requires { a + count ≤ RAM_BYTES }
+        requires inside { a < RAM_BYTES }
+        requires page { a % 4096 + count ≤ 4096 }
         ensures value { result.now ≡ slice_range self.now a (a + count) }
         ensures size { length self.now ≡ RAM_BYTES }
     {
-        get_piece(&self.bytes, a as usize, count as usize)
+        piece_at(&self.places, &self.bytes, a, count as usize)
+    }
+
+    /// Whether these bytes stand from an address on.
+    pub fn has(&self, a: u32, wanted: &[u8]) -> bool
+        requires { a + length wanted.now ≤ RAM_BYTES }
+        ensures { result ≡ pointwise nat_eq
+            (slice_range self.now a (a + length wanted.now)) wanted.now }
+    {
+        is_at(&self.places, &self.bytes, a, wanted)
     }
 }
 
-/// So many zeros.
-fn zeros(alloc: Global, count: usize) -> Result<Vec<u8>, AllocError>
-    ensures zeros { IfOk result (λ v. (a : ℕ) → slice_index v.items a ≡ 0) }
-    ensures size { IfOk result (λ v. length v.items ≡ count) }
+/// No page was written.
+fn no_places() -> [u8; PAGES]
+    ensures { result ≡ replicate PAGES 0 }
 {
-    vec![in alloc; 0; count]
+    [0; PAGES]
 }
 
-/// Puts a byte at a place.
-fn set_byte(bytes: &mut [u8], at: usize, v: u8)
-    requires { at < length bytes.old }
-    ensures { bytes.new ≡ slice_set bytes.old at v }
+/// Whether these bytes stand from an address on, page by page.
+#[tactic(auto, using(crate::proofs::Lists::has_parts, crate::proofs::Pages::memory_length))]
+fn is_at(places: &[u8; PAGES], bytes: &[u8], a: u32, wanted: &[u8]) -> bool
+    requires inside { a + length wanted.now ≤ RAM_BYTES }
+    requires sound { ArePages places.now bytes.now }
+    ensures { result ≡ pointwise nat_eq
+        (slice_range (memory_of places.now bytes.now) a (a + length wanted.now)) wanted.now }
 {
-    bytes[at] = v;
+    if wanted.is_empty() {
+        return true;
+    }
+    let room = PAGE_BYTES - a as usize % PAGE_BYTES;
+    if wanted.len() <= room {
+        return piece_at(places, bytes, a, wanted.len()) == wanted;
+    }
+    let (first, rest) = wanted.split_at(room);
+    piece_at(places, bytes, a, room) == first && is_at(places, bytes, a + room as u32, rest)
+}
+
+/// A page of zeros, with room for all pages behind it.
+#[tactic(auto, using(crate::proofs::Pages::page_more))]
+fn zero_page(alloc: Global) -> Result<Vec<u8>, AllocError>
+    ensures zeros { IfOk result (λ v. v.items ≡ replicate 4096 0) }
+    ensures room { IfOk result (λ v. 528384 ≤ vec_capacity v) }
+{
+    let mut bytes = Vec::with_capacity(alloc, PAGE_BYTES + RAM_BYTES as usize)?;
+    add_page(&mut bytes);
+    Ok(bytes)
+}
+
+/// One more page of zeros, for which there is room.
+#[tactic(auto, using(crate::proofs::Pages::page_more))]
+fn add_page(bytes: &mut Vec<u8>)
+    requires { length bytes.old.items + 4096 ≤ vec_capacity bytes.old }
+    ensures items { bytes.new.items ≡ bytes.old.items ++ replicate 4096 0 }
+    ensures room { vec_capacity bytes.old ≤ vec_capacity bytes.new }
+{
+    let end = bytes.len() + PAGE_BYTES;
+    reach(bytes, end);
+}
+
+/// There are so many bytes at least: zeros are put behind them where there are fewer.
+fn reach(bytes: &mut Vec<u8>, end: usize)
+    requires { end ≤ vec_capacity bytes.old }
+    ensures items { bytes.new.items
+        ≡ bytes.old.items ++ replicate (end - length bytes.old.items) 0 }
+    ensures room { vec_capacity bytes.old ≤ vec_capacity bytes.new }
+{
+    if bytes.len() < end {
+        let _ = bytes.resize(end, 0);
+    }
+}
+
+/// Where the byte of an address stands.
+fn place_of(places: &[u8; PAGES], a: u32) -> usize
+    requires { a < RAM_BYTES }
+    ensures { result ≡ 4096 * slice_index places.now (a / 4096) + a % 4096 }
+{
+    PAGE_BYTES * places[a as usize / PAGE_BYTES] as usize + a as usize % PAGE_BYTES
+}
+
+/// The byte at an address.
+#[tactic(auto, using(crate::proofs::Pages::byte_at, crate::proofs::Pages::place_inside, crate::proofs::Pages::memory_length,))]
+fn byte_at(places: &[u8; PAGES], bytes: &[u8], a: u32) -> u8
+    requires inside { a < RAM_BYTES }
+    requires sound { ArePages places.now bytes.now }
+    ensures value { result ≡ slice_index (memory_of places.now bytes.now) a }
+    ensures size { length (memory_of places.now bytes.now) ≡ RAM_BYTES }
+{
+    bytes[place_of(places, a)]
+}
+
+/// The word of the four bytes from an address on, which is a multiple of 4.
+#[tactic(auto, using(crate::proofs::Pages::range_in_page, crate::proofs::Pages::place_inside, crate::proofs::Pages::memory_length,))]
+fn word_at(places: &[u8; PAGES], bytes: &[u8], a: u32) -> u32
+    requires aligned { a % 4 ≡ 0 }
+    requires inside { a < RAM_BYTES }
+    requires sound { ArePages places.now bytes.now }
+    ensures value { result
+        ≡ from_le_bytes w32 (slice_range (memory_of places.now bytes.now) a (a + 4)) }
+    ensures size { length (memory_of places.now bytes.now) ≡ RAM_BYTES }
+{
+    get_word(bytes, place_of(places, a))
+}
+
+/// The bytes from an address on, so many, which lie in one page.
+#[tactic(auto, using(crate::proofs::Pages::range_in_page, crate::proofs::Pages::place_inside, crate::proofs::Pages::memory_length,))]
+fn piece_at<'a>(places: &[u8; PAGES], bytes: &'a [u8], a: u32, count: usize) -> &'a [u8]
+    requires inside { a < RAM_BYTES }
+    requires page { a % 4096 + count ≤ 4096 }
+    requires sound { ArePages places.now bytes.now }
+    ensures value { result.now ≡ slice_range (memory_of places.now bytes.now) a (a + count) }
+    ensures size { length (memory_of places.now bytes.now) ≡ RAM_BYTES }
+{
+    get_piece(bytes, place_of(places, a), count)
+}
+
+/// Page i, which has no place of its own, gets the next one.
+#[tactic(auto, using(crate::proofs::Pages::next_below, crate::proofs::Pages::next_room, crate::proofs::Pages::gets_same, crate::proofs::Pages::gets_sound, crate::proofs::Pages::owned_own,))]
+fn give_place(places: &mut [u8; PAGES], bytes: &mut Vec<u8>, i: usize)
+    requires page { i < PAGES }
+    requires none { slice_index places.old i ≡ 0 }
+    requires space { IsSpace places.old bytes.old.items (vec_capacity bytes.old) }
+    ensures same { memory_of places.new bytes.new.items ≡ memory_of places.old bytes.old.items }
+    ensures own { 0 < slice_index places.new i }
+    ensures sound { ArePages places.new bytes.new.items }
+    ensures room { vec_capacity bytes.old ≤ vec_capacity bytes.new }
+{
+    places[i] = (bytes.len() / PAGE_BYTES) as u8;
+    add_page(bytes);
+}
+
+/// Page i gets a place of its own where it has none.
+fn own_page(places: &mut [u8; PAGES], bytes: &mut Vec<u8>, i: usize)
+    requires page { i < PAGES }
+    requires space { IsSpace places.old bytes.old.items (vec_capacity bytes.old) }
+    ensures same { memory_of places.new bytes.new.items ≡ memory_of places.old bytes.old.items }
+    ensures own { 0 < slice_index places.new i }
+    ensures sound { ArePages places.new bytes.new.items }
+    ensures room { vec_capacity bytes.old ≤ vec_capacity bytes.new }
+{
+    if places[i] == 0 {
+        give_place(places, bytes, i);
+    }
+}
+
+/// Puts bytes from an address on, which lie in one page that has a place of its own.
+#[tactic(auto, using(crate::proofs::Pages::place_inside, crate::proofs::Pages::put_in_page, crate::proofs::Pages::put_sound, crate::proofs::Pages::memory_length,))]
+fn put_at(places: &[u8; PAGES], bytes: &mut [u8], a: u32, from: &[u8])
+    requires inside { a < RAM_BYTES }
+    requires page { a % 4096 + length from.now ≤ 4096 }
+    requires own { 0 < slice_index places.now (a / 4096) }
+    requires sound { ArePages places.now bytes.old }
+    ensures value { memory_of places.now bytes.new
+        ≡ put a from.now (memory_of places.now bytes.old) }
+    ensures sound { ArePages places.now bytes.new }
+    ensures size { length (memory_of places.now bytes.new) ≡ RAM_BYTES }
+{
+    set_piece(bytes, place_of(places, a), from);
+}
+
+/// Puts bytes from an address on, which lie in one page.
+#[tactic(auto, using(crate::proofs::Pages::memory_length))]
+fn put_in_page(places: &mut [u8; PAGES], bytes: &mut Vec<u8>, a: u32, from: &[u8])
+    requires inside { a < RAM_BYTES }
+    requires page { a % 4096 + length from.now ≤ 4096 }
+    requires space { IsSpace places.old bytes.old.items (vec_capacity bytes.old) }
+    ensures value { memory_of places.new bytes.new.items
+        ≡ put a from.now (memory_of places.old bytes.old.items) }
+    ensures space { IsSpace places.new bytes.new.items (vec_capacity bytes.new) }
+    ensures size { length (memory_of places.new bytes.new.items) ≡ RAM_BYTES }
+{
+    own_page(places, bytes, a as usize / PAGE_BYTES);
+    put_at(places, bytes, a, from);
+}
+
+/// Puts a byte at an address.
+#[tactic(auto, using(crate::proofs::Lists::put_one, crate::proofs::Pages::memory_length))]
+fn put_one(places: &mut [u8; PAGES], bytes: &mut Vec<u8>, a: u32, v: u8)
+    requires inside { a < RAM_BYTES }
+    requires space { IsSpace places.old bytes.old.items (vec_capacity bytes.old) }
+    ensures value { memory_of places.new bytes.new.items
+        ≡ slice_set (memory_of places.old bytes.old.items) a v }
+    ensures space { IsSpace places.new bytes.new.items (vec_capacity bytes.new) }
+    ensures size { length (memory_of places.new bytes.new.items) ≡ RAM_BYTES }
+{
+    put_in_page(places, bytes, a, &[v]);
+}
+
+/// Puts bytes from an address on, page by page.
+#[tactic(auto, using(crate::proofs::Lists::put_twice, crate::proofs::Lists::put_none, crate::proofs::Pages::memory_length,))]
+fn put_in_pages(places: &mut [u8; PAGES], bytes: &mut Vec<u8>, a: u32, from: &[u8])
+    requires inside { a + length from.now ≤ RAM_BYTES }
+    requires space { IsSpace places.old bytes.old.items (vec_capacity bytes.old) }
+    ensures value { memory_of places.new bytes.new.items
+        ≡ put a from.now (memory_of places.old bytes.old.items) }
+    ensures space { IsSpace places.new bytes.new.items (vec_capacity bytes.new) }
+    ensures size { length (memory_of places.new bytes.new.items) ≡ RAM_BYTES }
+{
+    if from.is_empty() {
+        return;
+    }
+    let room = PAGE_BYTES - a as usize % PAGE_BYTES;
+    if from.len() <= room {
+        put_in_page(places, bytes, a, from);
+        return;
+    }
+    let (first, rest) = from.split_at(room);
+    put_in_page(places, bytes, a, first);
+    put_in_pages(places, bytes, a + room as u32, rest);
+}
+
+/// Zeros from an address to another, in one page that has a place of its own.
+#[tactic(auto, using(crate::proofs::Pages::place_inside, crate::proofs::Pages::cleared_in_page, crate::proofs::Pages::cleared_sound,))]
+fn clear_at(places: &[u8; PAGES], bytes: &mut [u8], from: u32, to: u32)
+    requires order { from ≤ to }
+    requires inside { from < RAM_BYTES }
+    requires page { from % 4096 + (to - from) ≤ 4096 }
+    requires own { 0 < slice_index places.now (from / 4096) }
+    requires sound { ArePages places.now bytes.old }
+    ensures value { memory_of places.now bytes.new
+        ≡ cleared from to (memory_of places.now bytes.old) }
+    ensures sound { ArePages places.now bytes.new }
+{
+    let at = place_of(places, from);
+    clear_piece(bytes, at, at + (to - from) as usize);
+}
+
+/// Zeros from an address to another, in one page.
+#[tactic(auto, using(crate::proofs::Pages::cleared_blank))]
+fn clear_in_page(places: &[u8; PAGES], bytes: &mut [u8], from: u32, to: u32)
+    requires order { from ≤ to }
+    requires inside { from < RAM_BYTES }
+    requires page { from % 4096 + (to - from) ≤ 4096 }
+    requires sound { ArePages places.now bytes.old }
+    ensures value { memory_of places.now bytes.new
+        ≡ cleared from to (memory_of places.now bytes.old) }
+    ensures sound { ArePages places.now bytes.new }
+{
+    if places[from as usize / PAGE_BYTES] > 0 {
+        clear_at(places, bytes, from, to);
+    }
+}
+
+/// Zeros from an address to another, page by page.
+#[tactic(auto, using(crate::proofs::Lists::cleared_twice, crate::proofs::Lists::cleared_none, crate::proofs::Pages::memory_length,))]
+fn clear_pages(places: &[u8; PAGES], bytes: &mut [u8], from: u32, to: u32)
+    requires order { from ≤ to }
+    requires inside { to ≤ RAM_BYTES }
+    requires sound { ArePages places.now bytes.old }
+    ensures value { memory_of places.now bytes.new
+        ≡ cleared from to (memory_of places.now bytes.old) }
+    ensures sound { ArePages places.now bytes.new }
+    ensures size { length (memory_of places.now bytes.new) ≡ RAM_BYTES }
+{
+    if from == to {
+        return;
+    }
+    let end = from - from % PAGE_BYTES as u32 + PAGE_BYTES as u32;
+    if to <= end {
+        clear_in_page(places, bytes, from, to);
+        return;
+    }
+    clear_in_page(places, bytes, from, end);
+    clear_pages(places, bytes, end, to);
 }
 
 /// The word of the four bytes from a place on, the lowest byte first.
@@ -149,7 +416,7 @@ fn set_piece(bytes: &mut [u8], at: usize, from: &[u8])
 fn clear_piece(bytes: &mut [u8], from: usize, to: usize)
     requires order { from ≤ to }
     requires inside { to ≤ length bytes.old }
-    ensures { bytes.new ≡ take from bytes.old ++ replicate (to - from) 0 ++ drop to bytes.old }
+    ensures { bytes.new ≡ cleared from to bytes.old }
 {
     bytes[from..to].fill(0);
 }
@@ -180,6 +447,20 @@ mod tests {
             assert!(rt; ram.bytes(3, 5) == b"\0\x55\x66\x77\0".as_slice());
             assert_eq!(rt; ram.word(4), 0x0077_6655);
             assert_eq!(rt; ram.byte(524_287), 0x11);
+        }
+    }
+
+    #[test]
+    fn pieces_may_cross_pages(rt: HostRuntime) {
+        let made = Ram::new(rt.alloc());
+        assert!(rt; made.is_ok());
+        if let Ok(mut ram) = made {
+            assert!(rt; ram.has(8190, b"\0\0\0\0"));
+            ram.copy_in(8190, b"\x01\x02\x03\x04");
+            assert!(rt; ram.has(8190, b"\x01\x02\x03\x04"));
+            ram.clear(8191, 8193);
+            assert!(rt; ram.has(8189, b"\0\x01\0\0\x04\0"));
+            assert!(rt; !ram.has(8190, b"\x01\0\x03\x04"));
         }
     }
 }
