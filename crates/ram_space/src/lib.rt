@@ -248,6 +248,7 @@ fn piece_at<'a>(places: &[u8; PAGES], bytes: &'a [u8], a: u32, count: usize) -> 
 
 /// Page i, which has no place of its own, gets the next one.
 #[tactic(auto, using(crate::proofs::Pages::next_below, crate::proofs::Pages::next_room, crate::proofs::Pages::gets_same, crate::proofs::Pages::gets_sound, crate::proofs::Pages::owned_own,))]
+#[inline(never)]
 fn give_place(places: &mut [u8; PAGES], bytes: &mut Vec<u8>, i: usize)
     requires page { i < PAGES }
     requires none { slice_index places.old i ≡ 0 }
@@ -262,6 +263,7 @@ fn give_place(places: &mut [u8; PAGES], bytes: &mut Vec<u8>, i: usize)
 }
 
 /// Page i gets a place of its own where it has none.
+#[inline(always)]
 fn own_page(places: &mut [u8; PAGES], bytes: &mut Vec<u8>, i: usize)
     requires page { i < PAGES }
     requires space { IsSpace places.old bytes.old.items (vec_capacity bytes.old) }
@@ -277,6 +279,7 @@ fn own_page(places: &mut [u8; PAGES], bytes: &mut Vec<u8>, i: usize)
 
 /// Puts bytes from an address on, which lie in one page that has a place of its own.
 #[tactic(auto, using(crate::proofs::Pages::place_inside, crate::proofs::Pages::put_in_page, crate::proofs::Pages::put_sound, crate::proofs::Pages::memory_length,))]
+#[inline(always)]
 fn put_at(places: &[u8; PAGES], bytes: &mut [u8], a: u32, from: &[u8])
     requires inside { a < RAM_BYTES }
     requires page { a % 4096 + length from.now ≤ 4096 }
@@ -290,8 +293,10 @@ fn put_at(places: &[u8; PAGES], bytes: &mut [u8], a: u32, from: &[u8])
     set_piece(bytes, place_of(places, a), from);
 }
 
-/// Puts bytes from an address on, which lie in one page.
+/// Puts bytes from an address on, which lie in one page. It is always inlined, so that the bytes of a
+/// word are put without a loop.
 #[tactic(auto, using(crate::proofs::Pages::memory_length))]
+#[inline(always)]
 fn put_in_page(places: &mut [u8; PAGES], bytes: &mut Vec<u8>, a: u32, from: &[u8])
     requires inside { a < RAM_BYTES }
     requires page { a % 4096 + length from.now ≤ 4096 }
@@ -405,6 +410,7 @@ fn get_word(bytes: &[u8], at: usize) -> u32
 }
 
 /// Puts bytes in place of those from a place on.
+#[inline(always)]
 fn set_piece(bytes: &mut [u8], at: usize, from: &[u8])
     requires { at + length from.now ≤ length bytes.old }
     ensures { bytes.new ≡ take at bytes.old ++ from.now ++ drop (at + length from.now) bytes.old }
