@@ -4,7 +4,7 @@ use Rattle.std.proofs.lemmas.Bool.Decides.{nat_tests}
 use Rattle.std.specs.Prelude.{nat_lt, slice_index, slice_range, slice_set}
 use Rattle.std.proofs.lemmas.List.{length-append, length-replicate, length-set, get_or-append-add, get_or-take, get_or-drop, get_or_append_left, get_or-set_same, get_or-set_other}
 use Rattle.ram_space.specs.Pages.{put, cleared, page_at, memory_of, given, ArePages, IsSpace}
-use Rattle.ram_space.proofs.Lists.{put_length, put_same, put_within, put_behind, range_within, range_behind, range_of_range, range_length, range_before_put, range_behind_put, range_around_put, range_of_alike, more_alike, alike_length, cleared_put}
+use Rattle.ram_space.proofs.Lists.{alike_length, cleared_none, cleared_put, cleared_twice, has_parts, more_alike, put_behind, put_length, put_none, put_one, put_same, put_twice, put_within, range_around_put, range_before_put, range_behind, range_behind_put, range_length, range_of_alike, range_of_range, range_within}
 
 -- each page has its bytes
 abbrev AreThere : List ℕ → List ℕ → Type 0
@@ -403,3 +403,21 @@ blank_byte places bytes a e f =
 
 pub blank_length : (places bytes : List ℕ) → places ≡ replicate 128 0 → bytes ≡ replicate 4096 0 → length (memory_of places bytes) ≡ 524288
 blank_length places bytes e f = let space = blank_space places bytes 528384 e f (omega arith) in memory_length places bytes space.sound
+
+-- ---- what each kind of call goes by
+
+pub ruleset reads = (byte_at, range_in_page, place_inside, memory_length)
+
+pub ruleset compares = (has_parts, memory_length)
+
+pub ruleset begins = (blank_space, blank_byte, blank_length)
+
+pub ruleset gives = (next_below, next_room, gets_same, gets_sound, owned_own)
+
+pub ruleset puts = (place_inside, put_in_page, put_sound, memory_length)
+
+pub ruleset puts_pages = (put_one, put_twice, put_none, memory_length)
+
+pub ruleset clears = (place_inside, cleared_in_page, cleared_sound, cleared_blank)
+
+pub ruleset clears_pages = (cleared_twice, cleared_none, memory_length)

@@ -47,7 +47,7 @@ impl Model for Ram {
 
 impl Ram {
     /// Zeros. Takes all the memory that it ever does.
-    #[tactic(auto, using(crate::proofs::Pages::blank_space, crate::proofs::Pages::blank_byte, crate::proofs::Pages::blank_length,))]
+    #[tactic(auto, using(crate::proofs::Pages::begins))]
     pub fn new(alloc: Global) -> Result<Ram, NoMemory>
         ensures zeros { IfOk result (λ r. (a : ℕ) → slice_index r a ≡ 0) }
         ensures size { IfOk result (λ r. length r ≡ RAM_BYTES) }
@@ -150,7 +150,7 @@ fn no_places() -> [u8; PAGES]
 }
 
 /// Whether these bytes stand from an address on, page by page.
-#[tactic(auto, using(crate::proofs::Lists::has_parts, crate::proofs::Pages::memory_length))]
+#[tactic(auto, using(crate::proofs::Pages::compares))]
 fn is_at(places: &[u8; PAGES], bytes: &[u8], a: u32, wanted: &[u8]) -> bool
     requires inside { a + length wanted.now ≤ RAM_BYTES }
     requires sound { ArePages places.now bytes.now }
@@ -211,7 +211,7 @@ fn place_of(places: &[u8; PAGES], a: u32) -> usize
 }
 
 /// The byte at an address.
-#[tactic(auto, using(crate::proofs::Pages::byte_at, crate::proofs::Pages::place_inside, crate::proofs::Pages::memory_length,))]
+#[tactic(auto, using(crate::proofs::Pages::reads))]
 fn byte_at(places: &[u8; PAGES], bytes: &[u8], a: u32) -> u8
     requires inside { a < RAM_BYTES }
     requires sound { ArePages places.now bytes.now }
@@ -222,7 +222,7 @@ fn byte_at(places: &[u8; PAGES], bytes: &[u8], a: u32) -> u8
 }
 
 /// The word of the four bytes from an address on, which is a multiple of 4.
-#[tactic(auto, using(crate::proofs::Pages::range_in_page, crate::proofs::Pages::place_inside, crate::proofs::Pages::memory_length,))]
+#[tactic(auto, using(crate::proofs::Pages::reads))]
 fn word_at(places: &[u8; PAGES], bytes: &[u8], a: u32) -> u32
     requires aligned { a % 4 ≡ 0 }
     requires inside { a < RAM_BYTES }
@@ -235,7 +235,7 @@ fn word_at(places: &[u8; PAGES], bytes: &[u8], a: u32) -> u32
 }
 
 /// The bytes from an address on, so many, which lie in one page.
-#[tactic(auto, using(crate::proofs::Pages::range_in_page, crate::proofs::Pages::place_inside, crate::proofs::Pages::memory_length,))]
+#[tactic(auto, using(crate::proofs::Pages::reads))]
 fn piece_at<'a>(places: &[u8; PAGES], bytes: &'a [u8], a: u32, count: usize) -> &'a [u8]
     requires inside { a < RAM_BYTES }
     requires page { a % 4096 + count ≤ 4096 }
@@ -247,7 +247,7 @@ fn piece_at<'a>(places: &[u8; PAGES], bytes: &'a [u8], a: u32, count: usize) -> 
 }
 
 /// Page i, which has no place of its own, gets the next one.
-#[tactic(auto, using(crate::proofs::Pages::next_below, crate::proofs::Pages::next_room, crate::proofs::Pages::gets_same, crate::proofs::Pages::gets_sound, crate::proofs::Pages::owned_own,))]
+#[tactic(auto, using(crate::proofs::Pages::gives))]
 #[inline(never)]
 fn give_place(places: &mut [u8; PAGES], bytes: &mut Vec<u8>, i: usize)
     requires page { i < PAGES }
@@ -278,7 +278,7 @@ fn own_page(places: &mut [u8; PAGES], bytes: &mut Vec<u8>, i: usize)
 }
 
 /// Puts bytes from an address on, which lie in one page that has a place of its own.
-#[tactic(auto, using(crate::proofs::Pages::place_inside, crate::proofs::Pages::put_in_page, crate::proofs::Pages::put_sound, crate::proofs::Pages::memory_length,))]
+#[tactic(auto, using(crate::proofs::Pages::puts))]
 #[inline(always)]
 fn put_at(places: &[u8; PAGES], bytes: &mut [u8], a: u32, from: &[u8])
     requires inside { a < RAM_BYTES }
@@ -295,7 +295,7 @@ fn put_at(places: &[u8; PAGES], bytes: &mut [u8], a: u32, from: &[u8])
 
 /// Puts bytes from an address on, which lie in one page. It is always inlined, so that the bytes of a
 /// word are put without a loop.
-#[tactic(auto, using(crate::proofs::Pages::memory_length))]
+#[tactic(auto, using(crate::proofs::Pages::puts))]
 #[inline(always)]
 fn put_in_page(places: &mut [u8; PAGES], bytes: &mut Vec<u8>, a: u32, from: &[u8])
     requires inside { a < RAM_BYTES }
@@ -311,7 +311,7 @@ fn put_in_page(places: &mut [u8; PAGES], bytes: &mut Vec<u8>, a: u32, from: &[u8
 }
 
 /// Puts a byte at an address.
-#[tactic(auto, using(crate::proofs::Lists::put_one, crate::proofs::Pages::memory_length))]
+#[tactic(auto, using(crate::proofs::Pages::puts_pages))]
 fn put_one(places: &mut [u8; PAGES], bytes: &mut Vec<u8>, a: u32, v: u8)
     requires inside { a < RAM_BYTES }
     requires space { IsSpace places.old bytes.old.items (vec_capacity bytes.old) }
@@ -324,7 +324,7 @@ fn put_one(places: &mut [u8; PAGES], bytes: &mut Vec<u8>, a: u32, v: u8)
 }
 
 /// Puts bytes from an address on, page by page.
-#[tactic(auto, using(crate::proofs::Lists::put_twice, crate::proofs::Lists::put_none, crate::proofs::Pages::memory_length,))]
+#[tactic(auto, using(crate::proofs::Pages::puts_pages))]
 fn put_in_pages(places: &mut [u8; PAGES], bytes: &mut Vec<u8>, a: u32, from: &[u8])
     requires inside { a + length from.now ≤ RAM_BYTES }
     requires space { IsSpace places.old bytes.old.items (vec_capacity bytes.old) }
@@ -347,7 +347,7 @@ fn put_in_pages(places: &mut [u8; PAGES], bytes: &mut Vec<u8>, a: u32, from: &[u
 }
 
 /// Zeros from an address to another, in one page that has a place of its own.
-#[tactic(auto, using(crate::proofs::Pages::place_inside, crate::proofs::Pages::cleared_in_page, crate::proofs::Pages::cleared_sound,))]
+#[tactic(auto, using(crate::proofs::Pages::clears))]
 fn clear_at(places: &[u8; PAGES], bytes: &mut [u8], from: u32, to: u32)
     requires order { from ≤ to }
     requires inside { from < RAM_BYTES }
@@ -363,7 +363,7 @@ fn clear_at(places: &[u8; PAGES], bytes: &mut [u8], from: u32, to: u32)
 }
 
 /// Zeros from an address to another, in one page.
-#[tactic(auto, using(crate::proofs::Pages::cleared_blank))]
+#[tactic(auto, using(crate::proofs::Pages::clears))]
 fn clear_in_page(places: &[u8; PAGES], bytes: &mut [u8], from: u32, to: u32)
     requires order { from ≤ to }
     requires inside { from < RAM_BYTES }
@@ -379,7 +379,7 @@ fn clear_in_page(places: &[u8; PAGES], bytes: &mut [u8], from: u32, to: u32)
 }
 
 /// Zeros from an address to another, page by page.
-#[tactic(auto, using(crate::proofs::Lists::cleared_twice, crate::proofs::Lists::cleared_none, crate::proofs::Pages::memory_length,))]
+#[tactic(auto, using(crate::proofs::Pages::clears_pages))]
 fn clear_pages(places: &[u8; PAGES], bytes: &mut [u8], from: u32, to: u32)
     requires order { from ≤ to }
     requires inside { to ≤ RAM_BYTES }
