@@ -2,7 +2,7 @@
 
 ghost use Rattle.std.specs.Prelude.{◌≡◌, ◌≤◌, min, max, IfOk, IfErr};
 ghost use Rattle.lab_events.specs.Events.{chosen_count, event_count};
-ghost use Rattle.lab_events.specs.Refusals.{IsRefused};
+ghost use Rattle.lab_events.specs.Refusals.{IsTooMany};
 
 use crate::event::{Row, count_events};
 use kernel_model::NoMemory;
@@ -67,7 +67,7 @@ pub fn admitted(rows: &[Row], chosen: Chosen) -> Result<Chosen, PictureFault>
     ensures last { IfOk result (λ c. c.last ≡ min chosen.last (event_count rows.now)) }
     ensures few { IfOk result (λ _.
         chosen_count chosen.first chosen.last (event_count rows.now) ≤ 2000) }
-    ensures refused { IfErr result (IsRefused
+    ensures refused { IfErr result (IsTooMany
         (chosen_count chosen.first chosen.last (event_count rows.now))) }
 {
     let count = count_events(rows);

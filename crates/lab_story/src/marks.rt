@@ -1,5 +1,8 @@
 //! What a written line adds to the story.
 
+ghost use Rattle.std.specs.Prelude.{◌≡◌};
+ghost use Rattle.lab_story.specs.Numbers as spec;
+
 use crate::story::{
     Arrow, Bar, Column, DroppedGraft, End, Kind, NO_TEXT, PutBack, Record, Story, end_bars, keep,
     put, text_of_number,
@@ -12,7 +15,9 @@ use text_words::number_of;
 const LEVELS: u32 = 4;
 
 /// The number that the k-th word of a line says; 0 where it says none.
-pub fn number_at(line: &[u8], k: usize) -> u32 {
+pub fn number_at(line: &[u8], k: usize) -> u32
+    ensures { result ≡ spec.number_at line.now k }
+{
     match number_of(word_at(line, k)) {
         Some(n) => n,
         None => 0,

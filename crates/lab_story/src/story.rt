@@ -1,6 +1,6 @@
 //! What a run comes to as a picture: bars, marks, arrows and ticks, by the number of their event.
 
-ghost use Rattle.std.specs.Prelude.{◌≡◌, [], ◌∷◌, ◌++◌, length, map, IfOk, OnOk};
+ghost use Rattle.std.specs.Prelude.{◌≡◌, [], ◌∷◌, ◌++◌, length, map, slice_index_or, IfOk, OnOk};
 ghost use Rattle.lab_story.specs.Bars as spec;
 
 use kernel_model::NoMemory;
@@ -149,7 +149,10 @@ impl<'a> Story<'a> {
 
 /// Keeps a text: its number.
 pub fn keep<'a>(story: &mut Story<'a>, text: &'a [u8]) -> Result<usize, NoMemory>
-    ensures { IfOk result (λ number. number ≡ length story.old.texts.items) }
+    ensures number { IfOk result (λ number. number ≡ length story.old.texts.items) }
+    ensures text { OnOk result (map (λ t. t.now) story.new.texts.items
+        ≡ map (λ t. t.now) story.old.texts.items ++ text.now ∷ []) }
+    ensures others { story.new ≡ record story.old { texts = story.new.texts } }
 {
     let number = story.texts.len();
     put(&mut story.texts, text)?;
@@ -157,7 +160,9 @@ pub fn keep<'a>(story: &mut Story<'a>, text: &'a [u8]) -> Result<usize, NoMemory
 }
 
 /// The text of a number; none where there is no such text.
-pub fn text_of_number<'a>(texts: &[&'a [u8]], number: usize) -> &'a [u8] {
+pub fn text_of_number<'a>(texts: &[&'a [u8]], number: usize) -> &'a [u8]
+    ensures { result.now ≡ slice_index_or (map (λ t. t.now) texts.now) number [] }
+{
     match texts.get(number) {
         Some(text) => *text,
         None => [].as_slice(),

@@ -1,6 +1,6 @@
 //! Text and numbers behind a text of SVG.
 
-ghost use Rattle.std.specs.Prelude.{◌≡◌, ◌++◌, decimal, flat_map, OnOk};
+ghost use Rattle.std.specs.Prelude.{◌≡◌, ◌++◌, decimal, flat_map, take, OnOk};
 ghost use Rattle.lab_svg.specs.Escapes as spec;
 
 use kernel_model::NoMemory;
@@ -57,7 +57,9 @@ pub fn append_with(out: &mut Vec<u8>, text: &[u8], n: u32) -> Result<(), NoMemor
 }
 
 /// The first bytes of a text, at most so many.
-pub fn shortened(text: &[u8], most: usize) -> &[u8] {
+pub fn shortened(text: &[u8], most: usize) -> &[u8]
+    ensures { result.now ≡ take most text.now }
+{
     if text.len() <= most {
         text
     } else {
