@@ -3,7 +3,7 @@ use Rattle.std.proofs.Common.{◌≡◌, ℕ, zero, suc, ◌+◌, ◌-◌, ◌*�
 use Rattle.std.proofs.lemmas.Bool.Decides.{nat_tests}
 use Rattle.std.specs.Prelude.{nat_lt, slice_index, slice_range, slice_set}
 use Rattle.std.proofs.lemmas.List.{length-append, length-replicate, length-set, get_or-append-add, get_or-take, get_or-drop, get_or_append_left, get_or-set_same, get_or-set_other}
-use Rattle.ram_space.specs.Pages.{put, cleared, page_at, memory_of, given, ArePages, IsSpace}
+use Rattle.ram_space.specs.Pages.{put, cleared, page_at, memory_of, given, ArePages, IsSpace, IsPart}
 use Rattle.ram_space.proofs.Lists.{alike_length, cleared_none, cleared_put, cleared_twice, has_parts, more_alike, put_behind, put_length, put_none, put_one, put_same, put_twice, put_within, range_around_put, range_before_put, range_behind, range_behind_put, range_length, range_of_alike, range_of_range, range_within}
 
 -- each page has its bytes
@@ -254,14 +254,14 @@ next_below places bytes i sound one none =
     let next = next_of places bytes sound in
     omega (arith, few, many, next)
 
-pub next_room : (places bytes : List ℕ) (i capacity : ℕ) → IsSpace places bytes capacity → slice_index places i ≡ 0 → i < 128 → length bytes + 4096 ≤ capacity
-next_room places bytes i capacity space none one =
+pub next_room : (places bytes : List ℕ) (i n capacity : ℕ) → n ≡ length bytes → IsSpace places bytes capacity → slice_index places i ≡ 0 → i < 128 → n + 4096 ≤ capacity
+next_room places bytes i n capacity long space none one =
     let sound = space.sound in
     let few = fewer_given places i (let many = sound.many in omega (arith, many)) none in
     let size = sound.size in
     let many = sound.many in
     let wide = space.room in
-    omega (arith, few, many, size, wide)
+    omega (arith, few, many, size, wide, long)
 
 new_zeros : (bytes : List ℕ) (k : ℕ) → length bytes ≡ 4096 * k → page_at (bytes ++ replicate 4096 0) k ≡ replicate 4096 0
 new_zeros bytes k e =
@@ -372,24 +372,30 @@ blank_memory (suc n) =
 blank_at : (a : ℕ) → slice_index (memory_of (replicate 128 0) (replicate 4096 0)) a ≡ 0
 blank_at a = ap (λ m. slice_index m a) (blank_memory 128) ∙ none_given (4096 * 128) a
 
--- one more page
-pub page_more : (bytes : List ℕ) → bytes ++ replicate (length bytes + 4096 - length bytes) 0 ≡ bytes ++ replicate 4096 0
-page_more bytes = ap (λ n. bytes ++ replicate n 0) (let e : length bytes + 4096 - length bytes ≡ 4096 = omega arith in e)
-
 -- ---- in the words of the calls
 
-pub gets_same : (places bytes new : List ℕ) (i n : ℕ) → new ≡ bytes ++ replicate 4096 0 → n ≡ length bytes → ArePages places bytes → slice_index places i ≡ 0 →
+-- a page of zeros behind the bytes
+zeros_behind : (bytes : List ℕ) (n : ℕ) → n ≡ length bytes → bytes ++ replicate (n + 4096 - length bytes) 0 ≡ bytes ++ replicate 4096 0
+zeros_behind bytes n long = ap (λ k. bytes ++ replicate k 0) (let e : n + 4096 - length bytes ≡ 4096 = omega (arith, long) in e)
+
+pub gets_same : (places bytes new : List ℕ) (i n : ℕ) → new ≡ bytes ++ replicate (n + 4096 - length bytes) 0 → n ≡ length bytes → ArePages places bytes → slice_index places i ≡ 0 →
     memory_of (slice_set places i (n / 4096)) new ≡ memory_of places bytes
 gets_same places bytes new i n more long sound none =
-    ap (memory_of (slice_set places i (n / 4096))) more
+    ap (memory_of (slice_set places i (n / 4096))) (more ∙ zeros_behind bytes n long)
     ∙ ap (λ k. memory_of (slice_set places i (k / 4096)) (bytes ++ replicate 4096 0)) long
     ∙ owned_same places bytes i sound none
 
-pub gets_sound : (places bytes new : List ℕ) (i n : ℕ) → new ≡ bytes ++ replicate 4096 0 → n ≡ length bytes → ArePages places bytes → slice_index places i ≡ 0 → i < 128 →
-    ArePages (slice_set places i (n / 4096)) new
-gets_sound places bytes new i n more long sound none low =
-    subst (ArePages (slice_set places i (n / 4096))) (sym more)
-    (subst (λ k. ArePages (slice_set places i (k / 4096)) (bytes ++ replicate 4096 0)) (sym long) (owned_sound places bytes i sound low none))
+pub gets_space : (places bytes new : List ℕ) (i n old capacity : ℕ) → new ≡ bytes ++ replicate (n + 4096 - length bytes) 0 → n ≡ length bytes → IsSpace places bytes old → old ≤ capacity →
+    slice_index places i ≡ 0 → i < 128 → IsSpace (slice_set places i (n / 4096)) new capacity
+gets_space places bytes new i n old capacity more long space room none low = record {
+  sound = subst (ArePages (slice_set places i (n / 4096))) (sym (more ∙ zeros_behind bytes n long))
+      (subst (λ k. ArePages (slice_set places i (k / 4096)) (bytes ++ replicate 4096 0)) (sym long) (owned_sound places bytes i space.sound low none));
+  room = (let wide = space.room in omega (arith, wide, room));
+}
+
+-- a page of zeros behind no byte
+pub first_page : (bytes new : List ℕ) → new ≡ bytes ++ replicate (4096 - length bytes) 0 → bytes ≡ [] → new ≡ replicate 4096 0
+first_page bytes new more none = more ∙ ap (λ zs. zs ++ replicate (4096 - length zs) 0) none
 
 pub blank_space : (places bytes : List ℕ) (capacity : ℕ) → places ≡ replicate 128 0 → bytes ≡ replicate 4096 0 → 528384 ≤ capacity → IsSpace places bytes capacity
 blank_space places bytes capacity e f room = record {
@@ -404,20 +410,25 @@ blank_byte places bytes a e f =
 pub blank_length : (places bytes : List ℕ) → places ≡ replicate 128 0 → bytes ≡ replicate 4096 0 → length (memory_of places bytes) ≡ 524288
 blank_length places bytes e f = let space = blank_space places bytes 528384 e f (omega arith) in memory_length places bytes space.sound
 
+pub clear_here : (places bytes : List ℕ) (from to : ℕ) → ArePages places bytes → IsPart from to → 0 < slice_index places (from / 4096) →
+    memory_of places (cleared (place_of places from) (place_of places from + (to - from)) bytes) ≡ cleared from to (memory_of places bytes)
+clear_here places bytes from to sound part own = let piece = part.piece in cleared_in_page places bytes from to sound piece.inside part.order own piece.page
+
+pub clear_none : (places bytes : List ℕ) (from to : ℕ) → ArePages places bytes → IsPart from to → slice_index places (from / 4096) ≡ 0 → memory_of places bytes ≡ cleared from to (memory_of places bytes)
+clear_none places bytes from to sound part none = let piece = part.piece in cleared_blank places bytes from to sound piece.inside part.order none piece.page
+
 -- ---- what each kind of call goes by
 
 pub ruleset reads = (byte_at, range_in_page, place_inside, memory_length)
 
-pub ruleset compares = (has_parts, memory_length)
-
 pub ruleset begins = (blank_space, blank_byte, blank_length)
 
-pub ruleset gives = (next_below, next_room, gets_same, gets_sound, owned_own)
+pub ruleset gives = (next_below, next_room, gets_same, gets_space, owned_own)
 
 pub ruleset puts = (place_inside, put_in_page, put_sound, memory_length)
 
-pub ruleset puts_pages = (put_one, put_twice, put_none, memory_length)
+pub ruleset copies = (put_twice, put_none, memory_length)
 
-pub ruleset clears = (place_inside, cleared_in_page, cleared_sound, cleared_blank)
+pub ruleset clears = (place_inside, clear_here, cleared_sound, clear_none, memory_length)
 
 pub ruleset clears_pages = (cleared_twice, cleared_none, memory_length)

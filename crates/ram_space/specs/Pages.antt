@@ -1,5 +1,5 @@
 -- A memory in pages. Each has a place among the pages that were written; at place 0 stands a page of zeros, for all that weren't.
-use Rattle.std.specs.Prelude.{◌≡◌, ℕ, zero, suc, ◌+◌, ◌-◌, ◌*◌, ◌≤◌, ◌⊎◌, List, [], ◌∷◌, ◌++◌, length, take, drop, replicate, slice_index, slice_range}
+use Rattle.std.specs.Prelude.{◌≡◌, ℕ, zero, suc, ◌+◌, ◌-◌, ◌*◌, ◌%◌, ◌<◌, ◌≤◌, ◌⊎◌, List, [], ◌∷◌, ◌++◌, length, take, drop, replicate, slice_index, slice_range}
 
 -- these bytes in place of those from a on
 abbrev pub put : ℕ → List ℕ → List ℕ → List ℕ
@@ -8,6 +8,21 @@ put a from xs = take a xs ++ from ++ drop (a + length from) xs
 -- zeros in place of the bytes from one address to another
 abbrev pub cleared : ℕ → ℕ → List ℕ → List ℕ
 cleared from to xs = take from xs ++ replicate (to - from) 0 ++ drop to xs
+
+-- Bytes from an address on, so many, lie in one page.
+pub record IsPiece (a count : ℕ) : Type 0 where
+  pub inside : a < 524288
+  pub page : a % 4096 + count ≤ 4096
+
+-- The bytes from one address to another lie in one page.
+pub record IsPart (from to : ℕ) : Type 0 where
+  pub order : from ≤ to
+  pub piece : IsPiece from (to - from)
+
+-- A memory changes so, and has all its bytes.
+pub record Becomes (change : List ℕ → List ℕ) (old new : List ℕ) : Type 0 where
+  pub value : new ≡ change old
+  pub size : length new ≡ 524288
 
 -- the page at a place
 abbrev pub page_at : List ℕ → ℕ → List ℕ

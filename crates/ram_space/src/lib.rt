@@ -4,7 +4,7 @@
 ghost use Rattle.std.specs.Prelude.{◌≡◌, ℕ, ◌+◌, ◌*◌, ◌/◌, ◌≤◌, ◌<◌, ◌%◌, ◌++◌, ◌-◌, IfOk, length, nat_eq, replicate, take, drop, slice_index, slice_range, slice_set, vec_capacity};
 ghost use Rattle.std.specs.Cmp.Lexicographic.{pointwise};
 ghost use Rattle.std.specs.Int.{w32, from_le_bytes, to_le_bytes};
-ghost use Rattle.ram_space.specs.Pages.{ArePages, IsSpace, cleared, memory_of, put};
+ghost use Rattle.ram_space.specs.Pages.{ArePages, Becomes, IsPart, IsPiece, IsSpace, cleared, memory_of, put};
 
 use std::alloc::{AllocError, Global};
 use std::marker::Model;
@@ -76,7 +76,8 @@ impl Ram {
         ensures value { self.new ≡ slice_set self.old a v }
         ensures size { length self.new ≡ RAM_BYTES }
     {
-        put_one(&mut self.places, &mut self.bytes, a, v);
+        self.whole();
+        self.put_in_page(a, &[v]);
     }
 
     /// The word of the four bytes from an address on, the lowest byte first. The address is a
@@ -87,7 +88,7 @@ impl Ram {
         ensures value { result ≡ from_le_bytes w32 (slice_range self.now a (a + 4)) }
         ensures size { length self.now ≡ RAM_BYTES }
     {
-        word_at(&self.places, &self.bytes, a)
+        get_word(self.bytes(a, 4), 0)
     }
 
     /// Puts a word in the four bytes from an address on, the lowest byte first. The address is a
@@ -98,20 +99,59 @@ impl Ram {
         ensures value { self.new ≡ take a self.old ++ to_le_bytes w32 v ++ drop (a + 4) self.old }
         ensures size { length self.new ≡ RAM_BYTES }
     {
-        put_in_page(&mut self.places, &mut self.bytes, a, &v.to_le_bytes());
+        self.put_in_page(a, &v.to_le_bytes());
+    }
+
+    /// The memory has all its bytes.
+    fn whole(&self)
+        ensures { length self.now ≡ RAM_BYTES }
+    {
+        byte_at(&self.places, &self.bytes, 0);
+    }
+
+    /// Puts bytes from an address on, which lie in one page. It is always inlined, so that the bytes
+    /// of a word are put without a loop.
+    #[inline(always)]
+    fn put_in_page(&mut self, a: u32, from: &[u8])
+        requires { IsPiece a (length from.now) }
+        ensures { Becomes (put a from.now) self.old self.new }
+    {
+        own_page(&mut self.places, &mut self.bytes, a as usize / PAGE_BYTES);
+        put_at(&self.places, &mut self.bytes, a, from);
     }
 
     /// Copies bytes in, the first to an address.
+    #[tactic(auto, using(crate::proofs::Pages::copies))]
     pub fn copy_in(&mut self, a: u32, from: &[u8])
         requires { a + length from.now ≤ RAM_BYTES }
         ensures value { self.new ≡ take a self.old ++ from.now
             ++ drop (a + length from.now) self.old }
         ensures size { length self.new ≡ RAM_BYTES }
     {
-        put_in_pages(&mut self.places, &mut self.bytes, a, from);
+        self.whole();
+        if from.is_empty() {
+            return;
+        }
+        let room = PAGE_BYTES - a as usize % PAGE_BYTES;
+        if from.len() <= room {
+            self.put_in_page(a, from);
+            return;
+        }
+        let (first, rest) = from.split_at(room);
+        self.put_in_page(a, first);
+        self.copy_in(a + room as u32, rest);
+    }
+
+    /// Zeros from an address to another, in one page.
+    fn clear_in_page(&mut self, from: u32, to: u32)
+        requires { IsPart from to }
+        ensures { Becomes (cleared from to) self.old self.new }
+    {
+        clear_at(&self.places, &mut self.bytes, from, to);
     }
 
     /// Zeros from an address to another. Pages that weren't written stay so.
+    #[tactic(auto, using(crate::proofs::Pages::clears_pages))]
     pub fn clear(&mut self, from: u32, to: u32)
         requires order { from ≤ to }
         requires inside { to ≤ RAM_BYTES }
@@ -119,7 +159,17 @@ impl Ram {
             ++ drop to self.old }
         ensures size { length self.new ≡ RAM_BYTES }
     {
-        clear_pages(&self.places, &mut self.bytes, from, to);
+        self.whole();
+        if from == to {
+            return;
+        }
+        let end = from - from % PAGE_BYTES as u32 + PAGE_BYTES as u32;
+        if to <= end {
+            self.clear_in_page(from, to);
+            return;
+        }
+        self.clear_in_page(from, end);
+        self.clear(end, to);
     }
 
     /// The bytes from an address on, so many, which lie in one page of 4,096 bytes.
@@ -133,12 +183,21 @@ impl Ram {
     }
 
     /// Whether these bytes stand from an address on.
+    #[tactic(auto, using(crate::proofs::Lists::has_parts))]
     pub fn has(&self, a: u32, wanted: &[u8]) -> bool
         requires { a + length wanted.now ≤ RAM_BYTES }
         ensures { result ≡ pointwise nat_eq
             (slice_range self.now a (a + length wanted.now)) wanted.now }
     {
-        is_at(&self.places, &self.bytes, a, wanted)
+        if wanted.is_empty() {
+            return true;
+        }
+        let room = PAGE_BYTES - a as usize % PAGE_BYTES;
+        if wanted.len() <= room {
+            return self.bytes(a, wanted.len() as u32) == wanted;
+        }
+        let (first, rest) = wanted.split_at(room);
+        self.bytes(a, room as u32) == first && self.has(a + room as u32, rest)
     }
 }
 
@@ -149,45 +208,15 @@ fn no_places() -> [u8; PAGES]
     [0; PAGES]
 }
 
-/// Whether these bytes stand from an address on, page by page.
-#[tactic(auto, using(crate::proofs::Pages::compares))]
-fn is_at(places: &[u8; PAGES], bytes: &[u8], a: u32, wanted: &[u8]) -> bool
-    requires inside { a + length wanted.now ≤ RAM_BYTES }
-    requires sound { ArePages places.now bytes.now }
-    ensures { result ≡ pointwise nat_eq
-        (slice_range (memory_of places.now bytes.now) a (a + length wanted.now)) wanted.now }
-{
-    if wanted.is_empty() {
-        return true;
-    }
-    let room = PAGE_BYTES - a as usize % PAGE_BYTES;
-    if wanted.len() <= room {
-        return piece_at(places, bytes, a, wanted.len()) == wanted;
-    }
-    let (first, rest) = wanted.split_at(room);
-    piece_at(places, bytes, a, room) == first && is_at(places, bytes, a + room as u32, rest)
-}
-
 /// A page of zeros, with room for all pages behind it.
-#[tactic(auto, using(crate::proofs::Pages::page_more))]
+#[tactic(auto, using(crate::proofs::Pages::first_page))]
 fn zero_page(alloc: Global) -> Result<Vec<u8>, AllocError>
     ensures zeros { IfOk result (λ v. v.items ≡ replicate 4096 0) }
     ensures room { IfOk result (λ v. 528384 ≤ vec_capacity v) }
 {
     let mut bytes = Vec::with_capacity(alloc, PAGE_BYTES + RAM_BYTES as usize)?;
-    add_page(&mut bytes);
+    reach(&mut bytes, PAGE_BYTES);
     Ok(bytes)
-}
-
-/// One more page of zeros, for which there is room.
-#[tactic(auto, using(crate::proofs::Pages::page_more))]
-fn add_page(bytes: &mut Vec<u8>)
-    requires { length bytes.old.items + 4096 ≤ vec_capacity bytes.old }
-    ensures items { bytes.new.items ≡ bytes.old.items ++ replicate 4096 0 }
-    ensures room { vec_capacity bytes.old ≤ vec_capacity bytes.new }
-{
-    let end = bytes.len() + PAGE_BYTES;
-    reach(bytes, end);
 }
 
 /// There are so many bytes at least: zeros are put behind them where there are fewer.
@@ -221,24 +250,10 @@ fn byte_at(places: &[u8; PAGES], bytes: &[u8], a: u32) -> u8
     bytes[place_of(places, a)]
 }
 
-/// The word of the four bytes from an address on, which is a multiple of 4.
-#[tactic(auto, using(crate::proofs::Pages::reads))]
-fn word_at(places: &[u8; PAGES], bytes: &[u8], a: u32) -> u32
-    requires aligned { a % 4 ≡ 0 }
-    requires inside { a < RAM_BYTES }
-    requires sound { ArePages places.now bytes.now }
-    ensures value { result
-        ≡ from_le_bytes w32 (slice_range (memory_of places.now bytes.now) a (a + 4)) }
-    ensures size { length (memory_of places.now bytes.now) ≡ RAM_BYTES }
-{
-    get_word(bytes, place_of(places, a))
-}
-
 /// The bytes from an address on, so many, which lie in one page.
 #[tactic(auto, using(crate::proofs::Pages::reads))]
 fn piece_at<'a>(places: &[u8; PAGES], bytes: &'a [u8], a: u32, count: usize) -> &'a [u8]
-    requires inside { a < RAM_BYTES }
-    requires page { a % 4096 + count ≤ 4096 }
+    requires piece { IsPiece a count }
     requires sound { ArePages places.now bytes.now }
     ensures value { result.now ≡ slice_range (memory_of places.now bytes.now) a (a + count) }
     ensures size { length (memory_of places.now bytes.now) ≡ RAM_BYTES }
@@ -255,11 +270,11 @@ fn give_place(places: &mut [u8; PAGES], bytes: &mut Vec<u8>, i: usize)
     requires space { IsSpace places.old bytes.old.items (vec_capacity bytes.old) }
     ensures same { memory_of places.new bytes.new.items ≡ memory_of places.old bytes.old.items }
     ensures own { 0 < slice_index places.new i }
-    ensures sound { ArePages places.new bytes.new.items }
-    ensures room { vec_capacity bytes.old ≤ vec_capacity bytes.new }
+    ensures space { IsSpace places.new bytes.new.items (vec_capacity bytes.new) }
 {
-    places[i] = (bytes.len() / PAGE_BYTES) as u8;
-    add_page(bytes);
+    let end = bytes.len();
+    places[i] = (end / PAGE_BYTES) as u8;
+    reach(bytes, end + PAGE_BYTES);
 }
 
 /// Page i gets a place of its own where it has none.
@@ -269,8 +284,7 @@ fn own_page(places: &mut [u8; PAGES], bytes: &mut Vec<u8>, i: usize)
     requires space { IsSpace places.old bytes.old.items (vec_capacity bytes.old) }
     ensures same { memory_of places.new bytes.new.items ≡ memory_of places.old bytes.old.items }
     ensures own { 0 < slice_index places.new i }
-    ensures sound { ArePages places.new bytes.new.items }
-    ensures room { vec_capacity bytes.old ≤ vec_capacity bytes.new }
+    ensures space { IsSpace places.new bytes.new.items (vec_capacity bytes.new) }
 {
     if places[i] == 0 {
         give_place(places, bytes, i);
@@ -281,8 +295,7 @@ fn own_page(places: &mut [u8; PAGES], bytes: &mut Vec<u8>, i: usize)
 #[tactic(auto, using(crate::proofs::Pages::puts))]
 #[inline(always)]
 fn put_at(places: &[u8; PAGES], bytes: &mut [u8], a: u32, from: &[u8])
-    requires inside { a < RAM_BYTES }
-    requires page { a % 4096 + length from.now ≤ 4096 }
+    requires piece { IsPiece a (length from.now) }
     requires own { 0 < slice_index places.now (a / 4096) }
     requires sound { ArePages places.now bytes.old }
     ensures value { memory_of places.now bytes.new
@@ -293,112 +306,20 @@ fn put_at(places: &[u8; PAGES], bytes: &mut [u8], a: u32, from: &[u8])
     set_piece(bytes, place_of(places, a), from);
 }
 
-/// Puts bytes from an address on, which lie in one page. It is always inlined, so that the bytes of a
-/// word are put without a loop.
-#[tactic(auto, using(crate::proofs::Pages::puts))]
-#[inline(always)]
-fn put_in_page(places: &mut [u8; PAGES], bytes: &mut Vec<u8>, a: u32, from: &[u8])
-    requires inside { a < RAM_BYTES }
-    requires page { a % 4096 + length from.now ≤ 4096 }
-    requires space { IsSpace places.old bytes.old.items (vec_capacity bytes.old) }
-    ensures value { memory_of places.new bytes.new.items
-        ≡ put a from.now (memory_of places.old bytes.old.items) }
-    ensures space { IsSpace places.new bytes.new.items (vec_capacity bytes.new) }
-    ensures size { length (memory_of places.new bytes.new.items) ≡ RAM_BYTES }
-{
-    own_page(places, bytes, a as usize / PAGE_BYTES);
-    put_at(places, bytes, a, from);
-}
-
-/// Puts a byte at an address.
-#[tactic(auto, using(crate::proofs::Pages::puts_pages))]
-fn put_one(places: &mut [u8; PAGES], bytes: &mut Vec<u8>, a: u32, v: u8)
-    requires inside { a < RAM_BYTES }
-    requires space { IsSpace places.old bytes.old.items (vec_capacity bytes.old) }
-    ensures value { memory_of places.new bytes.new.items
-        ≡ slice_set (memory_of places.old bytes.old.items) a v }
-    ensures space { IsSpace places.new bytes.new.items (vec_capacity bytes.new) }
-    ensures size { length (memory_of places.new bytes.new.items) ≡ RAM_BYTES }
-{
-    put_in_page(places, bytes, a, &[v]);
-}
-
-/// Puts bytes from an address on, page by page.
-#[tactic(auto, using(crate::proofs::Pages::puts_pages))]
-fn put_in_pages(places: &mut [u8; PAGES], bytes: &mut Vec<u8>, a: u32, from: &[u8])
-    requires inside { a + length from.now ≤ RAM_BYTES }
-    requires space { IsSpace places.old bytes.old.items (vec_capacity bytes.old) }
-    ensures value { memory_of places.new bytes.new.items
-        ≡ put a from.now (memory_of places.old bytes.old.items) }
-    ensures space { IsSpace places.new bytes.new.items (vec_capacity bytes.new) }
-    ensures size { length (memory_of places.new bytes.new.items) ≡ RAM_BYTES }
-{
-    if from.is_empty() {
-        return;
-    }
-    let room = PAGE_BYTES - a as usize % PAGE_BYTES;
-    if from.len() <= room {
-        put_in_page(places, bytes, a, from);
-        return;
-    }
-    let (first, rest) = from.split_at(room);
-    put_in_page(places, bytes, a, first);
-    put_in_pages(places, bytes, a + room as u32, rest);
-}
-
-/// Zeros from an address to another, in one page that has a place of its own.
-#[tactic(auto, using(crate::proofs::Pages::clears))]
-fn clear_at(places: &[u8; PAGES], bytes: &mut [u8], from: u32, to: u32)
-    requires order { from ≤ to }
-    requires inside { from < RAM_BYTES }
-    requires page { from % 4096 + (to - from) ≤ 4096 }
-    requires own { 0 < slice_index places.now (from / 4096) }
-    requires sound { ArePages places.now bytes.old }
-    ensures value { memory_of places.now bytes.new
-        ≡ cleared from to (memory_of places.now bytes.old) }
-    ensures sound { ArePages places.now bytes.new }
-{
-    let at = place_of(places, from);
-    clear_piece(bytes, at, at + (to - from) as usize);
-}
-
 /// Zeros from an address to another, in one page.
 #[tactic(auto, using(crate::proofs::Pages::clears))]
-fn clear_in_page(places: &[u8; PAGES], bytes: &mut [u8], from: u32, to: u32)
-    requires order { from ≤ to }
-    requires inside { from < RAM_BYTES }
-    requires page { from % 4096 + (to - from) ≤ 4096 }
-    requires sound { ArePages places.now bytes.old }
-    ensures value { memory_of places.now bytes.new
-        ≡ cleared from to (memory_of places.now bytes.old) }
-    ensures sound { ArePages places.now bytes.new }
-{
-    if places[from as usize / PAGE_BYTES] > 0 {
-        clear_at(places, bytes, from, to);
-    }
-}
-
-/// Zeros from an address to another, page by page.
-#[tactic(auto, using(crate::proofs::Pages::clears_pages))]
-fn clear_pages(places: &[u8; PAGES], bytes: &mut [u8], from: u32, to: u32)
-    requires order { from ≤ to }
-    requires inside { to ≤ RAM_BYTES }
+fn clear_at(places: &[u8; PAGES], bytes: &mut [u8], from: u32, to: u32)
+    requires part { IsPart from to }
     requires sound { ArePages places.now bytes.old }
     ensures value { memory_of places.now bytes.new
         ≡ cleared from to (memory_of places.now bytes.old) }
     ensures sound { ArePages places.now bytes.new }
     ensures size { length (memory_of places.now bytes.new) ≡ RAM_BYTES }
 {
-    if from == to {
-        return;
+    if places[from as usize / PAGE_BYTES] > 0 {
+        let at = place_of(places, from);
+        clear_piece(bytes, at, at + (to - from) as usize);
     }
-    let end = from - from % PAGE_BYTES as u32 + PAGE_BYTES as u32;
-    if to <= end {
-        clear_in_page(places, bytes, from, to);
-        return;
-    }
-    clear_in_page(places, bytes, from, end);
-    clear_pages(places, bytes, end, to);
 }
 
 /// The word of the four bytes from a place on, the lowest byte first.

@@ -1,6 +1,0 @@
--- Fewer bytes are left.
-use Rattle.std.proofs.Common.{length}
-use Rattle.ram_space.proofs.+is_at.Given as goal
-
-abbrev pub decreases-is_at : goal.decreases-is_at
-decreases-is_at l = length l.wanted.now

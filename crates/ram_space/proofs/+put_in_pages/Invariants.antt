@@ -1,6 +1,0 @@
--- Fewer bytes are left.
-use Rattle.std.proofs.Common.{length}
-use Rattle.ram_space.proofs.+put_in_pages.Given as goal
-
-abbrev pub decreases-put_in_pages : goal.decreases-put_in_pages
-decreases-put_in_pages l = length l.from.now
