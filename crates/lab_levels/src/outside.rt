@@ -54,8 +54,10 @@ fn take_over(kept: &mut [u8], memory: &Ram, from: usize)
     ensures { kept.new ≡ take from kept.old ++ slice_range memory.now from (from + 4096)
         ++ drop (from + 4096) kept.old }
 {
-    kept[from..from + SEGMENT_BYTES]
-        .copy_from_slice(memory.bytes(from as u32, SEGMENT_BYTES as u32));
+    kept[from..from + SEGMENT_BYTES].copy_from_slice(memory.bytes(
+        from as u32,
+        SEGMENT_BYTES as u32,
+    ));
 }
 
 /// Whether a level took an instruction between two moments, and went on.
