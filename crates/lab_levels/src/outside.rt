@@ -15,14 +15,25 @@ const FIRST_SEGMENT: usize = 262_144;
 /// The bytes of a segment.
 pub(crate) const SEGMENT_BYTES: usize = 4096;
 
-/// Whether a memory is as it was before one place, and from another place on.
+/// Whether two memories are the same between two places.
+#[tactic(auto, using(crate::proofs::Ranges::has_range))]
+fn same_between(before: &[u8], after: &Ram, from: usize, to: usize) -> bool
+    requires order { from ≤ to }
+    requires inside { to ≤ RAM_BYTES }
+    requires whole { length before.now ≡ RAM_BYTES }
+    ensures { result ≡ spec.same_between from to before.now after.now }
+{
+    after.has(from as u32, &before[from..to])
+}
+
+/// Whether two memories are the same before one place, and from another place on.
 fn same_outside(before: &[u8], after: &Ram, from: usize, to: usize) -> bool
     requires order { from ≤ to }
     requires inside { to ≤ RAM_BYTES }
     requires whole { length before.now ≡ RAM_BYTES }
     ensures { result ≡ spec.same_outside from to before.now after.now }
 {
-    after.has(0, &before[..from]) && after.has(to as u32, &before[to..])
+    same_between(before, after, 0, from) && same_between(before, after, to, RAM_BYTES as usize)
 }
 
 /// Where the segment of a level begins in memory.

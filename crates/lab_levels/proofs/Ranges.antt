@@ -1,0 +1,17 @@
+-- A range compared with bytes from a place on.
+use Rattle.std.proofs.Common.{◌≡◌, ℕ, ◌+◌, ◌-◌, ◌≤◌, Bool, List, length, drop, arith, ◌∙◌, ap}
+use Rattle.std.proofs.lemmas.List.{length-take-le, length-drop}
+use Rattle.std.specs.Prelude.{slice_range}
+use Rattle.kernel_model.specs.World.{same_bytes}
+use Rattle.lab_levels.specs.Outside.{same_between}
+
+-- where a range ends
+range_end : (xs : List ℕ) (a b : ℕ) → a ≤ b → b ≤ length xs → a + length (slice_range xs a b) ≡ b
+range_end xs a b order inside =
+    let long = length-take-le (b - a) (drop a xs) (let e = length-drop a xs in omega (arith, e, order, inside)) in
+    omega (arith, long, order)
+
+pub has_range : (before after : List ℕ) (a b : ℕ) (found : Bool) → a ≤ b → b ≤ length before →
+    found ≡ same_bytes (slice_range after a (a + length (slice_range before a b))) (slice_range before a b) → found ≡ same_between a b before after
+has_range before after a b found order inside is =
+    is ∙ ap (λ n. same_bytes (slice_range after a n) (slice_range before a b)) (range_end before a b order inside)
