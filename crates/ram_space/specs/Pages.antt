@@ -1,4 +1,5 @@
--- A memory in pages. Each has a place among the pages that were written; at place 0 stands a page of zeros, for all that weren't.
+-- A memory in pages. Each has a place among the pages that were written; at place 0 stands a page of zeros,
+-- for all that weren't.
 use Rattle.std.specs.Prelude.{◌≡◌, ℕ, zero, suc, ◌+◌, ◌-◌, ◌*◌, ◌%◌, ◌<◌, ◌≤◌, ◌⊎◌, List, [], ◌∷◌, ◌++◌, length, take, drop, replicate, slice_index, slice_range}
 
 -- these bytes in place of those from a on
@@ -45,7 +46,8 @@ pub record ArePages (places bytes : List ℕ) : Type 0 where
   pub size : length bytes ≡ 4096 * suc (given places)
   pub zeros : page_at bytes 0 ≡ replicate 4096 0
   pub inside : (i : ℕ) → 4096 * slice_index places i + 4096 ≤ length bytes
-  pub apart : (i j : ℕ) → slice_index places i ≡ slice_index places j → (slice_index places i ≡ 0) ⊎ (i ≡ j)
+  pub apart : (i j : ℕ) → slice_index places i ≡ slice_index places j →
+      (slice_index places i ≡ 0) ⊎ (i ≡ j)
 
 -- The pages, and how many bytes there is memory for: those of all pages, and the page of zeros.
 pub record IsSpace (places bytes : List ℕ) (capacity : ℕ) : Type 0 where
