@@ -15,7 +15,7 @@ use Rattle.kernel_state.specs.Sound.{world_for}
 use Rattle.placed_laws.specs.Placed.{Placed}
 use Rattle.placed_laws.specs.Stands.{StandsFor}
 use Rattle.kernel_core.specs.declared.kernel.BootNote.TheVariants.{Up, Fault}
-use Rattle.kernel_core.specs.Standing.{Booted, directory_read, boot_note}
+use Rattle.kernel_core.specs.Standing.{Booted, directory_read, boot_note, boot_note_of}
 
 -- where none waits, all that wait are blocked
 pub opening_rests : (m : Meaning) (v : World) → IsAtRest m (opening_kernel v)
@@ -41,6 +41,10 @@ booted_read m setup size size_new y files dir block before io d e size_is empty 
       one = ap length one;
       made = made_alone d e before io empty goes;
       faulted = sym (ap (λ (calls : List Bool). disk_fails calls 0) one);
+      dir = dir;
+      begins = subst (λ n. StandsFor m y (opening_kernel (world_for setup n dir))) size_is stands;
+      counts = ap (λ n. Up setup.frames n files) size_is ∙ ap (Up setup.frames size) files_are
+          ∙ ap (boot_note_of setup.frames size dir) (sym one);
       is = λ blocks tells.
           let read = known blocks tells in
           let dir_of : dir ≡ directory_of size (blocks 0) = dir_is ∙ ap (λ n. directory_of n block) size_is ∙ ap (directory_of size) read.1 in
@@ -69,6 +73,9 @@ booted_fault m setup size size_new y dir before io d e size_is empty noted goes 
       one = ap length one;
       made = made_alone d e before io empty goes;
       faulted = sym (ap (λ (calls : List Bool). disk_fails calls 0) one);
+      dir = dir;
+      begins = subst (λ n. StandsFor m y (opening_kernel (world_for setup n dir))) size_is stands;
+      counts = ap (boot_note_of setup.frames size dir) (sym one);
       is = λ blocks tells.
           let same : directory_read size (blocks 0) io ≡ [] = ap (directory_read size (blocks 0)) one in
           let world : world_for setup size_new dir ≡ world_for setup size (directory_read size (blocks 0) io) =

@@ -33,13 +33,14 @@ abbrev pub directory_read : (size : ℕ) → (block : List ℕ) → List Bool �
 directory_read size block io =
     elim (disk_fails io 0) [ true ↦ [] | false ↦ directory_of size block ]
 
--- what is said of a boot
+-- what is said of a boot that found this directory, or whose first call of the disk failed
+abbrev pub boot_note_of : (frames size : ℕ) → List (Option FileRow) → List Bool → BootNote
+boot_note_of frames size dir io =
+    elim (disk_fails io 0) [ true ↦ Fault | false ↦ Up frames size (usable_count dir) ]
+
+-- what is said of a boot from this block 0
 abbrev pub boot_note : (frames size : ℕ) → (block : List ℕ) → List Bool → BootNote
-boot_note frames size block io =
-    elim (disk_fails io 0) [
-      | true ↦ Fault
-      | false ↦ Up frames size (usable_count (directory_of size block))
-    ]
+boot_note frames size block io = boot_note_of frames size (directory_of size block) io
 
 -- a boot says that the disk failed
 abbrev pub is_boot_fault : BootNote → Bool
@@ -66,4 +67,8 @@ pub record Booted (m : Meaning) (setup : Setup) (size : ℕ) (y : Placed) (note 
   pub made : Made d e io
   -- whatever the disk tells: it says so exactly where that call failed
   pub faulted : is_boot_fault note ≡ disk_fails io 0
+  -- and what is left stands for the kernel after boot with some directory, whose files it counts
+  pub dir : List (Option FileRow)
+  pub begins : StandsFor m y (opening_kernel (world_for setup size dir))
+  pub counts : note ≡ boot_note_of setup.frames size dir io
   pub is : (blocks : Blocks) → Knows d.known blocks → BootIs m setup size blocks io y note e.known

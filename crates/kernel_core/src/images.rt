@@ -1,6 +1,6 @@
 //! Images: loaded under keys, into slots of the kernel.
 
-ghost use Rattle.std.specs.Prelude.{◌≡◌, Result, Err, None, true, IfSome};
+ghost use Rattle.std.specs.Prelude.{◌≡◌, Result, Err, None, true, IfSome, OnErr};
 ghost use Rattle.kernel_model.specs.Images as images;
 ghost use Rattle.kernel_model.specs.World.{Image};
 ghost use Rattle.kernel_model.specs.Kernel.{Kernel as Abstract};
@@ -52,8 +52,9 @@ impl<C: Calls, B: Policy> Kernel<C, B> {
     }
 
     /// Loads sealed bytes under these keys into a slot, and answers how many instructions and data
-    /// bytes the image has. It is refused as its slot is, and then as `load` refuses its bytes. The
-    /// keys aren't kept. Memory is taken for the image alone; without it nothing changes.
+    /// bytes the image has; nothing else changes. It is refused as its slot is, and then as `load`
+    /// refuses its bytes, and then nothing changes. The keys aren't kept. Memory is taken for the
+    /// image alone; without it nothing changes.
     pub fn add_image(
         &mut self,
         alloc: Global,
@@ -68,12 +69,13 @@ impl<C: Calls, B: Policy> Kernel<C, B> {
             IsAtRest C.Meaning.meaning k →
             ImageIsAdded C.Meaning.meaning slot (images.load keys.now bytes.now) k
             (placed_of self.new.running) (image_said result) }
-        ensures memory { result ≡ Err (Unloaded NoMemory) → (self.new ≡ self.old)
-            × (slot_refused (placed_of self.old.running).images slot ≡ None) }
+        ensures memory { result ≡ Err (Unloaded NoMemory) →
+            slot_refused (placed_of self.old.running).images slot ≡ None }
+        ensures refused { OnErr result (self.new ≡ self.old) }
         ensures running { IsRunning self.new.running }
         ensures abstraction { HasAbstraction C.Meaning.meaning (placed_of self.new.running) }
-        ensures store { self.new.running.store ≡ self.old.running.store }
-        ensures clock { self.new.running.clock ≡ self.old.running.clock }
+        ensures same { let x = self.old.running in self.new
+            ≡ record self.old { running = record x { images = self.new.running.images } } }
     {
         if let Some(refusal) = self.slot_refusal(slot) {
             return Err(refusal);

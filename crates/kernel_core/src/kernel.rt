@@ -1,7 +1,7 @@
 //! The kernel: a running kernel over a disk. It is booted, takes events one after another, and
 //! shows what it is.
 
-ghost use Rattle.std.specs.Prelude.{◌≡◌, ◌<◌, ◌≤◌, ◌-◌, ◌^◌, [], map, None, is_some, option_map, slice_get, IfOk, IfSome};
+ghost use Rattle.std.specs.Prelude.{◌≡◌, ◌<◌, ◌≤◌, ◌-◌, ◌^◌, [], map, None, Some, is_some, option_map, slice_get, slice_set, IfOk, IfSome};
 ghost use Rattle.kernel_model.specs.Bare.{event_with};
 ghost use Rattle.kernel_model.specs.Kernel.{Kernel as Abstract};
 ghost use Rattle.kernel_model.specs.Opening.{opening_policy};
@@ -122,7 +122,8 @@ impl<C: Calls, B: Policy> Kernel<C, B> {
         self.running.has_image(slot)
     }
 
-    /// A slot that is free has this image from now on. No memory is taken.
+    /// A slot that is free has this image from now on, and nothing else changes. No memory is
+    /// taken.
     pub(crate) fn put_image(&mut self, slot: u32, image: Loaded)
         requires sound { IsSound C.Meaning.meaning self.old.running }
         requires slot { slot < 32 }
@@ -135,8 +136,9 @@ impl<C: Calls, B: Policy> Kernel<C, B> {
             (placed_of self.old.running) k → IsAtRest C.Meaning.meaning k →
             IsAtRest C.Meaning.meaning (session.add_image slot image k) }
         ensures sound { IsSound C.Meaning.meaning self.new.running }
-        ensures store { self.new.running.store ≡ self.old.running.store }
-        ensures clock { self.new.running.clock ≡ self.old.running.clock }
+        ensures changed { let x = self.old.running in self.new ≡ record self.old {
+            running = record x { images = slice_set x.images slot (Some image) };
+        } }
     {
         self.running.add_image(slot, image);
     }

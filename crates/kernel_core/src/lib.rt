@@ -1,7 +1,7 @@
 //! The kernel: events over one store and a disk, for any table of calls.
 //!
 //! Contracts see a kernel as the kernel in place of the definitions, which stands for an abstract
-//! kernel, and an event as what it makes of that one (`Happened`).
+//! kernel, and an event as what it makes of that one (`EventRefines`).
 #![tactic(auto)]
 
 mod events;

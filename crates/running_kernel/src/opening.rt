@@ -1,6 +1,6 @@
 //! How a kernel begins again, and how images are added.
 
-ghost use Rattle.std.specs.Prelude.{◌≡◌, ℕ, ◌<◌, ◌≤◌, true, None, Some, is_some, length, slice_index_or};
+ghost use Rattle.std.specs.Prelude.{◌≡◌, ℕ, ◌<◌, ◌≤◌, true, None, Some, is_some, length, slice_index_or, slice_set};
 ghost use Rattle.kernel_model.specs.declared.FileRow.{FileRow as Row};
 ghost use Rattle.kernel_model.specs.Directory.{lies_on_disk};
 ghost use Rattle.kernel_model.specs.Kernel.{Kernel};
@@ -56,8 +56,8 @@ impl<C: Calls, B: Policy> Running<C, B> {
         !self.images.is_free(slot)
     }
 
-    /// A slot that is free has this image from now on. Every call stays where it is, and what
-    /// blocks it. No memory is taken.
+    /// A slot that is free has this image from now on, and nothing else changes. Every call stays
+    /// where it is, and what blocks it. No memory is taken.
     pub fn add_image(&mut self, slot: u32, image: Loaded)
         requires sound { IsSound C.Meaning.meaning self.old }
         requires slot { slot < 32 }
@@ -69,8 +69,8 @@ impl<C: Calls, B: Policy> Running<C, B> {
             IsAtRest C.Meaning.meaning k →
             IsAtRest C.Meaning.meaning (session.add_image slot image k) }
         ensures sound { IsSound C.Meaning.meaning self.new }
-        ensures store { self.new.store ≡ self.old.store }
-        ensures clock { self.new.clock ≡ self.old.clock }
+        ensures changed { self.new
+            ≡ record self.old { images = slice_set self.old.images slot (Some image) } }
     {
         self.images.add(slot, image);
     }

@@ -176,7 +176,7 @@ impl<C: Calls, B: Policy> Running<C, B> {
     }
 
     /// The process of the first call in the order that nothing blocks. Where there is none, the
-    /// order is told its blockers: each is looked for once.
+    /// order is told its blockers: each is looked for once. Nothing but the order changes.
     pub fn next_or_rest(&mut self) -> Option<u8>
         requires { IsSound C.Meaning.meaning self.old }
         ensures next { let x = placed_of self.old in
@@ -186,6 +186,7 @@ impl<C: Calls, B: Policy> Running<C, B> {
             IfNone result (Simulates
             (with_placed_order (placed_rested_order C.Meaning.meaning x x.order)) x
             (placed_of self.new)) }
+        ensures same { self.new ≡ record self.old { order = self.new.order } }
         ensures running { IsRunning self.new }
     {
         if self.order.is_empty() {
@@ -197,12 +198,13 @@ impl<C: Calls, B: Policy> Running<C, B> {
         self.next_from(0)
     }
 
-    /// The order is told its blockers.
+    /// The order is told its blockers, and nothing else changes.
     pub fn rest(&mut self)
         requires { IsSound C.Meaning.meaning self.old }
         ensures value { let x = placed_of self.old in
             Simulates (with_placed_order (placed_rested_order C.Meaning.meaning x x.order)) x
             (placed_of self.new) }
+        ensures same { self.new ≡ record self.old { order = self.new.order } }
         ensures running { IsRunning self.new }
     {
         if self.order.is_empty() {
@@ -219,6 +221,7 @@ impl<C: Calls, B: Policy> Running<C, B> {
         ensures value { let x = placed_of self.old in
             Simulates (with_placed_order (placed_rested_order C.Meaning.meaning x x.order)) x
             (placed_of self.new) }
+        ensures same { self.new ≡ record self.old { order = self.new.order } }
         ensures running { IsRunning self.new }
     {
         let mut rested = Order::new();

@@ -161,10 +161,10 @@ boot_comes c s x (y ∷ z ∷ io) note out known told_new a rest one stands is s
 pub boot_runs : (c : Place) (s : Seen) (x : Placed) (note : BootNote) (out : Left) (d e : DiskSeen) →
     Booted all_calls s.setup c.size x note d e → LeavesText out (line (boot_line note)) → RunsEntry c Boot s (record s { placed = x; booted = true }) d e out
 boot_runs c s x note out d e h said =
-    record { io = h.io; made = h.made; parsed = refl; told = record { note = note; bytes_are = said.bytes_are; faulted = h.faulted }; comes = λ a rest stands. boot_comes c s x h.io note out d.known e.known a rest h.one stands (h.is a.blocks stands.blocks) said }
+    record { io = h.io; made = h.made; parsed = refl; told = record { dir = h.dir; bytes_are = said.bytes_are ∙ ap (λ (y : BootNote). line (boot_line y)) h.counts }; comes = λ a rest stands. boot_comes c s x h.io note out d.known e.known a rest h.one stands (h.is a.blocks stands.blocks) said }
 
 -- a session went on by an entry that leaves the disk alone
-pub alone : (c : Place) (entry : Entry) (s t : Seen) (out : Left) (d : DiskSeen) → parsed_of t ≡ parsed_entry (parsed_of s) entry → TellsFailures entry out [] →
+pub alone : (c : Place) (entry : Entry) (s t : Seen) (out : Left) (d : DiskSeen) → parsed_of t ≡ parsed_entry (parsed_of s) entry → TellsFailures s.setup.frames c.size entry out [] →
     ((a : Session) (rest : List Bool) → StandsFor s d.known a →
     LineMatches t d.known out (after_entry present_build c.keys c.size a entry rest) rest) → RunsEntry c entry s t d d out
 alone c entry s t out d parsed told comes = record { io = []; made = made_none d; parsed = parsed; told = told; comes = comes }
@@ -207,15 +207,15 @@ patience_runs c s kind ticks patience out d is silent =
     })
 
 -- an event that leaves nothing behind says nothing of the disk
-pub silent_event : (out : Left) (what : Event) → LeavesText out [] → TellsFailures (Happens what) out []
-silent_event out what said =
+pub silent_event : (frames size : ℕ) (out : Left) (what : Event) → LeavesText out [] → TellsFailures frames size (Happens what) out []
+silent_event frames size out what said =
     let none = ap fault_notes said.no_notes in
     (said.bytes_are ∙ ap note_lines (sym said.no_notes), omega (arith, none))
 
 -- an entry after `boot` that stands before it
 pub unbooted_runs : (c : Place) (entry : Entry) (s : Seen) (out : Left) (d : DiskSeen) → ((a : Session) (rest : List Bool) →
     after_entry present_build c.keys c.size a entry rest ≡ running_in present_build c.keys c.size a entry a.kernel rest) →
-    ((p : Parsed) → p ≡ parsed_entry p entry) → s.booted ≡ false → LeavesText out [] → TellsFailures entry out [] → RunsEntry c entry s s d d out
+    ((p : Parsed) → p ≡ parsed_entry p entry) → s.booted ≡ false → LeavesText out [] → TellsFailures s.setup.frames c.size entry out [] → RunsEntry c entry s s d d out
 unbooted_runs c entry s out d runs parsed booted said told =
     alone c entry s s out d (parsed (parsed_of s)) told (λ a rest stands.
     let run : after_entry present_build c.keys c.size a entry rest ≡ silent a rest =
@@ -315,7 +315,7 @@ line_entered c s t text out entry d e going is runs =
       made = runs.made;
       by_text = goes_entry (parsed_of s) (parsed_of t) text out.bytes entry going is
           (runs.parsed ∙ ap (λ (n : ℕ). parsed_entry (record (parsed_of s) { lines = n }) entry) (add-one s.lines));
-      told = λ other still says. subst (λ (x : Entry). TellsFailures x out runs.io) (one_entry entry other (sym is ∙ says)) runs.told;
+      told = λ other still says. subst (λ (x : Entry). TellsFailures s.setup.frames c.size x out runs.io) (one_entry entry other (sym is ∙ says)) runs.told;
       comes = λ a rest stands.
           subst (λ w. LineMatches t e.known out w rest) (sym (line_parsed c s d.known a text (Ok entry) (runs.io ++ rest) stands going is))
           (runs.comes (record a { lines = suc a.lines }) rest (counted s d.known a stands));

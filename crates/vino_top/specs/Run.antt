@@ -7,16 +7,16 @@ use Rattle.filters.specs.Filtered.{AppendsPart, HasEnded}
 use Rattle.disk_log.specs.Calls.{Knows, Made, failures}
 use Rattle.vino_base.specs.Disks.{DiskSeen}
 use Rattle.kernel_model.specs.declared.Keys.{Keys}
+use Rattle.kernel_model.specs.declared.FileRow.{FileRow}
 use Rattle.kernel_model.specs.declared.Note.{Note}
 use Rattle.kernel_model.specs.World.{Blocks}
 use Rattle.kernel_model.specs.Session.{Session, Written, first_session, after_line, after_entry, session_after, pieces_of, first_io, later_io}
 use Rattle.kernel_model.specs.Kernel.{Kernel}
 use Rattle.kernel_model.specs.Script.{Entry, Boot, Happens, Loads, parsed_line}
 use Rattle.kernel_model.specs.Outcome.{SCRIPT_BYTES, Ending, End, Outcome, outcome, written, lines_after, rest_after}
-use Rattle.kernel_model.specs.Meaning.{disk_fails}
 use Rattle.kernel_model.specs.Text.{boot_text, line, note_lines}
 use Rattle.kernel_steps.specs.Faults.{fault_notes}
-use Rattle.kernel_core.specs.Standing.{is_boot_fault}
+use Rattle.kernel_core.specs.Standing.{boot_note_of}
 use Rattle.kernel_core.specs.declared.kernel.BootNote.{BootNote}
 use Rattle.kernel_core.specs.declared.kernel.BootNote.TheVariants.{Up}
 use Rattle.kernel_core.specs.declared.kernel.BootNote.TheVariants as boot_is
@@ -129,20 +129,20 @@ abbrev pub boot_line : BootNote → List ℕ
 boot_line (Up frames size files) = boot_text frames size files
 boot_line boot_is.Fault = codes "0 E16"
 
--- A boot's line was written, and says that the disk failed exactly where the boot's call did.
-pub record TellsBoot (out : Left) (io : List Bool) : Type 0 where
-  pub note : BootNote
-  pub bytes_are : out.bytes ≡ line (boot_line note)
-  pub faulted : is_boot_fault note ≡ disk_fails io 0
+-- A boot's line was written, on a disk of this size: it says that the disk failed exactly where the
+-- boot's call did, and else these frames, the size, and how many usable files some directory has.
+pub record TellsBoot (frames size : ℕ) (out : Left) (io : List Bool) : Type 0 where
+  pub dir : List (Option FileRow)
+  pub bytes_are : out.bytes ≡ line (boot_line (boot_note_of frames size dir io))
 
 -- What an entry with these calls of the disk leaves behind says that the disk failed only where a
 -- call did. An event writes the lines of its notes, of which each that says so has a failed call of
 -- its own; a boot writes its line; other entries say nothing of the disk.
-abbrev pub TellsFailures : Entry → Left → List Bool → Type 0
-TellsFailures (Happens what) out io =
+abbrev pub TellsFailures : (frames size : ℕ) → Entry → Left → List Bool → Type 0
+TellsFailures frames size (Happens what) out io =
     (out.bytes ≡ note_lines out.notes) × (fault_notes out.notes ≤ failures io)
-TellsFailures Boot out io = TellsBoot out io
-TellsFailures entry out io = out.notes ≡ []
+TellsFailures frames size Boot out io = TellsBoot frames size out io
+TellsFailures frames size entry out io = out.notes ≡ []
 
 -- The session went on by this line, which took the disk from the one to the other and left `out`
 -- behind. Whatever calls behind its own would do, the line comes to this, and leaves those.
@@ -156,7 +156,7 @@ pub record RunsLine (c : Place) (text : List ℕ) (s t : Seen) (d e : DiskSeen)
   -- over any disk, also one that tells nothing
   pub by_text : GoesByText (parsed_of s) (parsed_of t) (text ∷ []) out.bytes
   pub told : (entry : Entry) → s.refused ≡ false → parsed_line s.booted text ≡ Ok entry →
-      TellsFailures entry out io
+      TellsFailures s.setup.frames c.size entry out io
 
 -- The session went on by this entry, which took the disk from the one to the other and left `out`
 -- behind. Whatever calls behind its own would do, the entry comes to this, and leaves those.
@@ -169,7 +169,7 @@ pub record RunsEntry (c : Place) (entry : Entry) (s t : Seen) (d e : DiskSeen)
       LineMatches t e.known out (after_entry present_build c.keys c.size a entry (io ++ rest)) rest
   -- over any disk, also one that tells nothing
   pub parsed : parsed_of t ≡ parsed_entry (parsed_of s) entry
-  pub told : TellsFailures entry out io
+  pub told : TellsFailures s.setup.frames c.size entry out io
 
 -- The entry loads an image into a slot that is in range and free. Only such an entry wants memory.
 pub record LoadsFree (s : Seen) (e : Entry) : Type 0 where

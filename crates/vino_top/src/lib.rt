@@ -48,12 +48,11 @@ pub type AllCalls = Beside<StreamPoints, Beside<EventPoints, Plain>>;
 const READ_BYTES: usize = 65_536;
 
 /// Does what the words ask. `run KEYS` runs the script that the source gives, whose images are
-/// sealed under these keys; `box KEYS` boxes and seals the raw image that it gives, with the flag
+/// sealed under these keys. `box KEYS` boxes and seals the raw image that it gives, with the flag
 /// keep where `keep` stands behind; `check KEYS` says whether a sealed image can be used, and
-/// `reseal KEYS` seals one anew under the last key;
-/// `asm`, `dis` and `lang` assemble, disassemble and compile what it gives; `demo N` runs the
-/// script that `demo_script` gives for N and tells of it in one line. For other words the usage
-/// line is written.
+/// `reseal KEYS` seals one anew under the last key. `asm`, `dis` and `lang` assemble, disassemble
+/// and compile what it gives. `demo N` runs the script that `demo_script` gives for N and tells of
+/// it in one line. For other words the usage line is written.
 ///
 /// The words are those after the program's own name. The answer is the exit status: 0 for an input
 /// that was done to its end, 1 for words that aren't in the grammar, 2 for a refused line, 3 for a

@@ -1,6 +1,6 @@
 //! The run loop.
 
-ghost use Rattle.std.specs.Prelude.{◌≡◌, ◌≢◌, ◌==◌, ◌+◌, ◌-◌, ◌<◌, ◌≤◌, ◌^◌, ℕ, List, [], ◌∷◌, ◌++◌, length, false, Err, OnOk, IfOk, MatchResult, vec_len, ◌⊎◌, drop};
+ghost use Rattle.std.specs.Prelude.{◌≡◌, ◌≢◌, ◌==◌, ◌+◌, ◌-◌, ◌<◌, ◌≤◌, ◌^◌, ℕ, List, [], ◌∷◌, ◌++◌, length, false, Err, OnOk, IfOk, MatchResult, replicate, ◌⊎◌, drop};
 ghost use Rattle.std.specs.Io.KnownBytes.{Appends, Consumes, IsAtEnd};
 ghost use Rattle.vino_base.specs.Streams.{IsUsed};
 ghost use Rattle.kernel_model.specs.Script.{LINE_BYTES};
@@ -63,7 +63,7 @@ impl<B: Policy> ScriptRun<B> {
 
 /// So many zero bytes.
 pub fn zeros(alloc: Global, n: usize) -> Result<Vec<u8>, NoMemory>
-    ensures { IfOk result (λ v. vec_len v ≡ n) }
+    ensures { IfOk result (λ v. v.items ≡ replicate n 0) }
 {
     match vec![in alloc; 0u8; n] {
         Ok(v) => Ok(v),

@@ -48,7 +48,9 @@ pub struct Buffers {
 
 impl Buffers {
     /// Empty ones.
-    pub fn new(alloc: Global) -> Result<Buffers, NoMemory> {
+    pub fn new(alloc: Global) -> Result<Buffers, NoMemory>
+        ensures { IfOk result (λ b. LeavesText (left_in b) []) }
+    {
         Ok(Buffers {
             trace: Trace::new(alloc)?,
             bytes: ArrayVec::new(),
