@@ -1,52 +1,77 @@
--- One part more, and the end.
-use Rattle.std.proofs.Common.{◌≡◌, ℕ, ◌≤◌, true, All, List, [], ◌∷◌, ◌++◌, drop, slice_range, flat_map, arith, refl, sym, ap, ◌∙◌, append_assoc}
-use Rattle.std.proofs.lemmas.Grind.{flat_map-append}
-use Rattle.std.proofs.lemmas.List.{append-nil}
-use Rattle.std.proofs.lemmas.List.Elements.{All-append, All-cons}
+-- What the woven text is: the kernel's bytes and the watcher's lines, all and in their order.
+use Rattle.std.proofs.Common.{◌≡◌, ℕ, ◌-◌, ◌≤◌, Bool, true, false, cond, List, [], ◌∷◌, ◌++◌, length, take, drop, slice_range, flat_map, arith, refl, sym, ap, subst, ◌∙◌, append_assoc}
+use Rattle.std.proofs.lemmas.Bool.Decides.{nat_tests}
+use Rattle.std.proofs.lemmas.List.Elements.{All-cons, All-nil}
 use Rattle.std.proofs.lemmas.List.Folds.{drop_split}
-use Rattle.lab_weave.specs.Woven.{Woven, is_whole, own_line, both, kernel_part, Begun, Weaves}
+use Rattle.lab_weave.specs.Lines.{Own}
+use Rattle.lab_weave.specs.Woven.{Woven, is_whole, own_line, both, kernel_part, Weaves, WeavesLines, reached, standing, woven}
 
-no_part : All (λ (w : Woven). is_whole w.kernel ≡ true) []
-no_part k part below = absurd (omega (arith, below))
+-- a part that ends with a whole line
+abbrev Ends : Woven → Type 0
+Ends w = is_whole w.kernel ≡ true
 
--- nothing yet
-pub begun : (kernel : List ℕ) → Begun [] kernel (drop 0 kernel)
-begun kernel = record { parts = []; whole = no_part; text_is = refl; kernel_is = refl }
-
--- a part more
-abbrev part : (kernel line : List ℕ) (at to : ℕ) → Woven
-part kernel line at to = record { kernel = slice_range kernel at to; text = line }
-
-pub more : (text kernel line : List ℕ) (at to : ℕ) → at ≤ to →
-    is_whole (slice_range kernel at to) ≡ true → Begun text kernel (drop at kernel) →
-    Begun ((text ++ slice_range kernel at to) ++ own_line line) kernel (drop to kernel)
-more text kernel line at to order ends b =
+-- a line more before what is woven
+one : (kernel : List ℕ) (at to : ℕ) (o : Own) (text : List ℕ) (lines : List Own) → at ≤ to →
+    is_whole (slice_range kernel at to) ≡ true → WeavesLines text (drop to kernel) lines →
+    WeavesLines (slice_range kernel at to ++ own_line o.text ++ text) (drop at kernel) (o ∷ lines)
+one kernel at to o text lines order ends w =
+    let part : Woven = record { kernel = slice_range kernel at to; text = o.text } in
     record {
-      parts = b.parts ++ part kernel line at to ∷ [];
-      whole =
-          All-append (λ (w : Woven). is_whole w.kernel ≡ true) b.parts (part kernel line at to ∷ []) b.whole
-          (All-cons (λ (w : Woven). is_whole w.kernel ≡ true) (part kernel line at to) [] ends no_part);
-      text_is =
-          append_assoc text (slice_range kernel at to) (own_line line)
-          ∙ ap (λ t. t ++ (slice_range kernel at to ++ own_line line)) b.text_is
-          ∙ ap (λ t. flat_map both b.parts ++ t) (sym (append-nil (both (part kernel line at to))))
-          ∙ sym (flat_map-append both b.parts (part kernel line at to ∷ []));
-      kernel_is =
-          b.kernel_is
-          ∙ ap (λ t. flat_map kernel_part b.parts ++ t) (drop_split kernel at to order)
-          ∙ sym (append_assoc (flat_map kernel_part b.parts) (slice_range kernel at to) (drop to kernel))
-          ∙ ap (λ t. t ++ drop to kernel)
-          (ap (λ t. flat_map kernel_part b.parts ++ t) (sym (append-nil (slice_range kernel at to)))
-          ∙ sym (flat_map-append kernel_part b.parts (part kernel line at to ∷ [])));
+      weaves = record {
+        parts = part ∷ w.weaves.parts;
+        whole = All-cons Ends part w.weaves.parts ends w.weaves.whole;
+        last = w.weaves.last;
+        text_is =
+            ap (λ t. both part ++ t) w.weaves.text_is
+            ∙ sym (append_assoc (both part) (flat_map both w.weaves.parts) w.weaves.last);
+        kernel_is =
+            drop_split kernel at to order
+            ∙ ap (λ t. slice_range kernel at to ++ t) w.weaves.kernel_is
+            ∙ sym (append_assoc (slice_range kernel at to) (flat_map kernel_part w.weaves.parts) w.weaves.last);
+      };
+      lines_are = ap (λ ts. o.text ∷ ts) w.lines_are;
     }
 
--- the last bytes
-pub whole : (text kernel last : List ℕ) → Begun text kernel last → Weaves (text ++ last) kernel
-whole text kernel last b =
+-- a line stands no earlier than the one before
+pub later : (kernel : List ℕ) (at place : ℕ) → at ≤ length kernel → at ≤ standing kernel at place
+later kernel at place inside = grind (arith, nat_tests)
+
+-- and no later than the end
+pub within : (kernel : List ℕ) (at place : ℕ) → at ≤ length kernel → standing kernel at place ≤ length kernel
+within kernel at place inside = grind (arith, nat_tests)
+
+-- behind a whole line
+ends_by : (kernel : List ℕ) (at to : ℕ) (b : Bool) → is_whole (slice_range kernel at to) ≡ b →
+    is_whole (slice_range kernel at (cond b to at)) ≡ true
+ends_by kernel at to true e = e
+ends_by kernel at to false e =
+    let none : at - at ≡ 0 = omega arith in ap (λ k. is_whole (take k (drop at kernel))) none
+
+pub weaving : (kernel : List ℕ) (at : ℕ) (lines : List Own) → at ≤ length kernel →
+    WeavesLines (woven kernel at lines) (drop at kernel) lines
+weaving kernel at [] inside =
     record {
-      parts = b.parts;
-      whole = b.whole;
-      last = last;
-      text_is = ap (λ t. t ++ last) b.text_is;
-      kernel_is = b.kernel_is;
+      weaves = record {
+        parts = [];
+        whole = All-nil Ends;
+        last = drop at kernel;
+        text_is = refl;
+        kernel_is = refl;
+      };
+      lines_are = refl;
     }
+weaving kernel at (o ∷ lines) inside =
+    let to = standing kernel at o.place in
+    one kernel at to o (woven kernel to lines) lines (later kernel at o.place inside)
+    (ends_by kernel at (reached kernel at o.place) (is_whole (slice_range kernel at (reached kernel at o.place))) refl)
+    (weaving kernel to lines (within kernel at o.place inside))
+
+-- all of it
+pub weaves_lines : (text kernel : List ℕ) (lines : List Own) → text ≡ woven kernel 0 lines →
+    WeavesLines text kernel lines
+weaves_lines text kernel lines is =
+    subst (λ t. WeavesLines t kernel lines) (sym is) (weaving kernel 0 lines (omega arith))
+
+pub weaves : (text kernel : List ℕ) (lines : List Own) → text ≡ woven kernel 0 lines →
+    Weaves text kernel
+weaves text kernel lines is = (weaves_lines text kernel lines is).weaves

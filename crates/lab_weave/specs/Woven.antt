@@ -1,5 +1,6 @@
 -- What the kernel wrote, with lines of the watcher between its parts.
-use Rattle.std.specs.Prelude.{◌≡◌, ℕ, ◌==◌, ◌-◌, Bool, true, ◌||◌, List, [], ◌∷◌, ◌++◌, length, cond, nat_lt, map, codes, flat_map, All, slice_index}
+use Rattle.std.specs.Prelude.{◌≡◌, ℕ, ◌==◌, ◌-◌, min, max, Bool, true, ◌||◌, List, [], ◌∷◌, ◌++◌, length, cond, nat_lt, map, codes, drop, flat_map, All, slice_index, slice_range}
+use Rattle.lab_weave.specs.Lines.{Own}
 
 -- a byte of a line of the watcher: `?` for what would end the line, and for what isn't seen
 abbrev pub shown : ℕ → ℕ
@@ -26,14 +27,6 @@ kernel_part w = w.kernel
 abbrev pub is_whole : List ℕ → Bool
 is_whole bytes = length bytes == 0 || slice_index bytes (length bytes - 1) == 10
 
--- The text is the first bytes of the kernel, up to these last ones, with whole lines of the watcher
--- behind whole lines of them.
-pub record Begun (text kernel last : List ℕ) : Type 0 where
-  pub parts : List Woven
-  pub whole : All (λ (w : Woven). is_whole w.kernel ≡ true) parts
-  pub text_is : text ≡ flat_map both parts
-  pub kernel_is : kernel ≡ flat_map kernel_part parts ++ last
-
 -- The text is these bytes of the kernel, all and in their order, with whole lines of the watcher
 -- behind whole lines of them. So where no line of the kernel begins with a bar, the lines that don't
 -- are the kernel's.
@@ -43,3 +36,25 @@ pub record Weaves (text kernel : List ℕ) : Type 0 where
   pub last : List ℕ
   pub text_is : text ≡ flat_map both parts ++ last
   pub kernel_is : kernel ≡ flat_map kernel_part parts ++ last
+
+-- And the lines of the watcher are these, all and in their order.
+pub record WeavesLines (text kernel : List ℕ) (lines : List Own) : Type 0 where
+  pub weaves : Weaves text kernel
+  pub lines_are : map (λ (w : Woven). w.text) weaves.parts ≡ map (λ (o : Own). o.text) lines
+
+-- the place, or where the line before stands if that is behind it, or the end of the kernel's bytes
+abbrev pub reached : (kernel : List ℕ) → (at place : ℕ) → ℕ
+reached kernel at place = min (max place at) (length kernel)
+
+-- where a line stands that is to stand at a place, behind a line that stands at another one: there,
+-- or with the line before it where a line of the kernel would be parted
+abbrev pub standing : (kernel : List ℕ) → (at place : ℕ) → ℕ
+standing kernel at place =
+    cond (is_whole (slice_range kernel at (reached kernel at place))) (reached kernel at place) at
+
+-- the bytes of the kernel from a place on, with lines of the watcher where they stand
+abbrev pub woven : (kernel : List ℕ) → (at : ℕ) → List Own → List ℕ
+woven kernel at [] = drop at kernel
+woven kernel at (o ∷ lines) =
+    slice_range kernel at (standing kernel at o.place) ++ own_line o.text
+    ++ woven kernel (standing kernel at o.place) lines

@@ -1,7 +1,8 @@
 //! What the kernel wrote, with the lines of the watcher between its parts.
 
-ghost use Rattle.std.specs.Prelude.{◌≡◌, ◌≤◌, ◌++◌, length, map, drop, slice_range, true, IfOk, OnOk};
-ghost use Rattle.lab_weave.specs.Woven.{own_line, shown, Begun, Weaves};
+ghost use Rattle.std.specs.Prelude.{◌≡◌, ◌≤◌, ◌++◌, length, map, slice_range, IfOk, OnOk};
+ghost use Rattle.lab_weave.specs.Lines.{lines_in, AreWithin};
+ghost use Rattle.lab_weave.specs.Woven.{own_line, shown, woven, Weaves, WeavesLines};
 ghost use Rattle.lab_weave.specs.Woven as spec;
 
 use crate::own_lines::{OwnLine, OwnLines};
@@ -35,16 +36,6 @@ fn append_own(out: &mut Vec<u8>, line: &[u8]) -> Result<(), NoMemory>
     append(out, b"\n")
 }
 
-/// The bytes between two places, where they stand in the text.
-fn between(text: &[u8], from: usize, to: usize) -> &[u8] {
-    if from <= to && to <= text.len() {
-        &text[from..to]
-    } else {
-        &[]
-    }
-}
-
-#[tactic(auto, using(crate::proofs::Weaving::more))]
 /// Appends the kernel's bytes from one place to another, and then a line of the watcher.
 fn append_both(
     out: &mut Vec<u8>,
@@ -55,9 +46,8 @@ fn append_both(
 ) -> Result<(), NoMemory>
     requires order { at ≤ to }
     requires inside { to ≤ length kernel.now }
-    requires whole { spec.is_whole (slice_range kernel.now at to) ≡ true }
-    requires begun { Begun out.old.items kernel.now (drop at kernel.now) }
-    ensures { OnOk result (Begun out.new.items kernel.now (drop to kernel.now)) }
+    ensures { OnOk result (out.new.items
+        ≡ out.old.items ++ slice_range kernel.now at to ++ own_line line.now) }
 {
     append(out, &kernel[at..to])?;
     append_own(out, line)
@@ -70,32 +60,50 @@ fn is_whole(bytes: &[u8]) -> bool
     bytes.is_empty() || bytes[bytes.len() - 1] == b'\n'
 }
 
-/// The place of a line, which is no earlier than where the line before stands and no later than the
+/// Where a line stands, behind one that stands at `at`: no earlier than that and no later than the
 /// end, and behind a whole line of the kernel.
 fn place_of(line: OwnLine, kernel: &[u8], at: usize) -> usize
     requires { at ≤ length kernel.now }
+    ensures place { result ≡ spec.standing kernel.now at line.place }
     ensures order { at ≤ result }
     ensures inside { result ≤ length kernel.now }
-    ensures whole { spec.is_whole (slice_range kernel.now at result) ≡ true }
 {
     let to = line.place.max(at).min(kernel.len());
     if is_whole(&kernel[at..to]) { to } else { at }
 }
 
-#[tactic(auto, using(crate::proofs::Weaving::begun, crate::proofs::Weaving::whole))]
-/// The bytes that the kernel wrote, all and in their order, with the lines of the watcher between
-/// parts of them.
-pub fn weave(alloc: Global, kernel: &[u8], own: &OwnLines) -> Result<Vec<u8>, NoMemory>
-    ensures { IfOk result (λ text. Weaves text.items kernel.now) }
+/// The kernel's bytes with these lines, whose texts stand among others, between parts of them.
+pub(crate) fn weave_lines(
+    alloc: Global,
+    kernel: &[u8],
+    texts: &[u8],
+    lines: &[OwnLine],
+) -> Result<Vec<u8>, NoMemory>
+    requires { AreWithin (length texts.now) lines.now }
+    ensures { IfOk result (λ text.
+        text.items ≡ woven kernel.now 0 (lines_in texts.now lines.now)) }
 {
     let mut out = Vec::new(alloc);
     let mut at = 0;
-    for line in &own.lines {
+    for line in lines {
         let to = place_of(*line, kernel, at);
-        let text = between(own.text.as_slice(), line.from, line.to);
-        append_both(&mut out, kernel, at, to, text)?;
+        append_both(&mut out, kernel, at, to, &texts[line.from..line.to])?;
         at = to;
     }
     append(&mut out, &kernel[at..])?;
     Ok(out)
+}
+
+/// The bytes that the kernel wrote, all and in their order, with the lines of the watcher between
+/// parts of them.
+#[tactic(auto, using(crate::proofs::Weaving::weaves, crate::proofs::Weaving::weaves_lines))]
+pub fn weave(alloc: Global, kernel: &[u8], own: &OwnLines) -> Result<Vec<u8>, NoMemory>
+    // Nothing of the kernel is changed or left out.
+    ensures kernel { IfOk result (λ text. Weaves text.items kernel.now) }
+    // Nor is a line of the watcher.
+    ensures own { IfOk result (λ text. WeavesLines text.items kernel.now own.now.lines) }
+    // And each of them stands at its place.
+    ensures places { IfOk result (λ text. text.items ≡ woven kernel.now 0 own.now.lines) }
+{
+    own.woven(alloc, kernel)
 }
