@@ -10,4 +10,4 @@ pub use lab_codes::{
     code_of, text_of,
 };
 pub use lab_forms::{Form, PLAIN_FORMS, form_is_told, form_of};
-pub use sentences::{append_object, tell, word_at};
+pub use sentences::{append_object, part_at, tell, word_at};

@@ -23,7 +23,7 @@ pub fn word_at(line: &[u8], k: usize) -> &[u8]
 
 #[tactic(auto, using(crate::proofs::Passing::taken, crate::proofs::Passing::past))]
 /// The k-th part of a text between separators; nothing past their end.
-fn part_at(text: &[u8], separator: u8, k: usize) -> &[u8]
+pub fn part_at(text: &[u8], separator: u8, k: usize) -> &[u8]
     ensures { result.now ≡ slice_index_or (slice_split (λ b. b == separator) text.now) k [] }
 {
     let mut parts = Parts::new(text, separator);
