@@ -1,12 +1,14 @@
 //! The sentence that tells of a fault.
 
+ghost use Rattle.std.specs.Prelude.{◌≡◌, length, min};
+ghost use Rattle.lab_faults.specs.Places as spec;
+
 use crate::operands::{Wrong, check_statement};
 use crate::spans::{Span, bytes_of, code_end, column_of, next_part, next_word, word_span};
 use kernel_model::NoMemory;
 use lab_tokens::{AsmKind, LabFault, LabKind};
-use lab_words::{Code, text_of, words_of};
+use lab_words::{Code, part_at, text_of, words_of};
 use std::alloc::Global;
-use text_words::Parts;
 
 /// A fault in words: where in its line, its code if it has one, and what is said.
 #[derive(Drop)]
@@ -30,16 +32,13 @@ fn add_number(out: &mut Vec<u8>, n: usize) -> Result<(), NoMemory> {
 }
 
 /// Line n of a text, from 1, without its newline; line 0 is empty.
-fn line_at(text: &[u8], n: usize) -> &[u8] {
-    let mut lines = Parts::new(text, b'\n');
-    let mut number = 0usize;
-    while let Some(line) = lines.next() {
-        number = number.saturating_add(1);
-        if number == n {
-            return line;
-        }
+fn line_at(text: &[u8], n: usize) -> &[u8]
+    ensures { result.now ≡ spec.line_at text.now n }
+{
+    if n == 0 {
+        return &[];
     }
-    &[]
+    part_at(text, b'\n', n - 1)
 }
 
 /// The first byte of a line that isn't a space.
@@ -299,12 +298,15 @@ fn add_place(
 }
 
 /// The number of the line in which this byte stands, and where the line begins.
-fn line_of(text: &[u8], at: usize) -> (usize, usize) {
+fn line_of(text: &[u8], at: usize) -> (usize, usize)
+    ensures number { result.0 ≡ spec.line_number text.now (min at (length text.now)) }
+    ensures begin { result.1 ≡ spec.line_begin text.now (min at (length text.now)) }
+{
     let mut number = 1usize;
     let mut from = 0;
-    for (i, byte) in text.iter().enumerate() {
-        if i < at && *byte == b'\n' {
-            number = number.saturating_add(1);
+    for i in 0..at.min(text.len()) {
+        if text[i] == b'\n' {
+            number += 1;
             from = i + 1;
         }
     }
