@@ -2,6 +2,7 @@
 
 ghost use Rattle.std.specs.Prelude.{◌≡◌};
 ghost use Rattle.kernel_model.specs.Filters.{asm_kind_text, lang_kind_text};
+ghost use Rattle.lab_code_words.specs.Pages as pages;
 ghost use Rattle.lab_codes.specs.Codes as spec;
 
 use crate::words::{
@@ -93,7 +94,9 @@ pub fn words_of(code: Code) -> &'static Words
 }
 
 /// Where the code is described: a page, and its section.
-pub fn page_of(code: Code) -> &'static str {
+pub fn page_of(code: Code) -> &'static str
+    ensures { result.now ≡ pages.page_of code }
+{
     match code {
         Code::Script(_) => "docs/FORMATS.md, \"Refused lines\"",
         Code::Call(_) => "docs/CALLS.md, \"Refusals\"",
