@@ -70,6 +70,7 @@ impl DemoLines {
     pub fn next(&mut self, line: &mut Text) -> bool
         ensures more { IsTrue result → self.old ≡ line.new ∷ self.new }
         ensures end { result ≡ false → (self.old ≡ []) × (self.new ≡ []) }
+        ensures kept { result ≡ false → line.new ≡ line.old }
     {
         if self.head < HEAD_LINES {
             print_head(
