@@ -1,6 +1,6 @@
 -- A piece of the table of high marks is one of the plain table, with an answer of its own.
 use Rattle.std.specs.Prelude.{IfErr}
-use Rattle.std.proofs.Common.{Result, ◌≡◌, ℕ, ◌<◌, nat_lt, Bool, true, false, List, [], ◌++◌, Option, None, Some, Ok, Err, refl, sym, subst, ap, ◌∙◌, arith}
+use Rattle.std.proofs.Common.{Result, ◌≡◌, ℕ, ◌<◌, nat_lt, Bool, true, false, List, [], ◌∷◌, ◌++◌, length, Option, None, Some, Ok, Err, refl, sym, subst, ap, ◌∙◌, arith}
 use Rattle.std.proofs.lemmas.Bool.Decides.{nat_tests}
 use Rattle.kernel_model.specs.declared.Refusal.{Refusal}
 use Rattle.kernel_model.specs.declared.Refusal.TheVariants.{BadIndex}
@@ -64,16 +64,19 @@ pub poke_begun : (k x : ℕ) (t : Stage) →
     Ok t ≡ begins_unless (Poke k x) (refused (nat_lt 3 k) BadIndex None) → t ≡ stage (Poke k x) 0
 poke_begun k x t h = begun_at (Poke k x) (refused (nat_lt 3 k) BadIndex None) t h
 
--- where it is refused, the number of its cell is above 3
+-- where it is refused, there is no cell of this number
 refused_by : (b : Bool) (c : SysCall) (why : Refusal) →
-    Err why ≡ begins_unless c (refused b BadIndex None) → b ≡ true
-refused_by true c why h = refl
+    Err why ≡ begins_unless c (refused b BadIndex None) → (b ≡ true) × (why ≡ BadIndex)
+refused_by true c why h = (refl, cc)
 refused_by false c why h = cc
 
+-- the number of its cell is above 3
 pub poke_refused : (k x : ℕ) (why : Refusal) →
-    Err why ≡ begins_unless (Poke k x) (refused (nat_lt 3 k) BadIndex None) → 3 < k
+    Err why ≡ begins_unless (Poke k x) (refused (nat_lt 3 k) BadIndex None) →
+    (why ≡ BadIndex) × (3 < k)
 poke_refused k x why h =
-    let high = refused_by (nat_lt 3 k) (Poke k x) why h in grind (arith, nat_tests)
+    let high = refused_by (nat_lt 3 k) (Poke k x) why h in
+    let test = high.0 in (high.1, grind (arith, nat_tests))
 
 -- a piece that ends its call with a reply
 pub ends_with : (next : Next) (t : Stage) (reply : Reply) → comes_after next t ≡ EndsWith reply →
@@ -92,15 +95,23 @@ poke_leaves : (v : World) (images : ImageTable) (s : Objects) (blocks : Blocks)
     t ≡ stage (Poke k x) 0 → q ≡ p →
     ((marked_calls.piece v images s blocks q t answer io).objects ≡ marked p k (mark p k x s) s)
     × ((marked_calls.piece v images s blocks q t answer io).after ≡ EndsWith (One (mark p k x s)))
+    × ((marked_calls.piece v images s blocks q t answer io).calls ≡ 0)
 poke_leaves v images s blocks p q k x t answer io e f =
     subst (λ (r : ℕ).
     ((marked_calls.piece v images s blocks r t answer io).objects ≡ marked p k (mark p k x s) s)
-    × ((marked_calls.piece v images s blocks r t answer io).after ≡ EndsWith (One (mark p k x s))))
+    × ((marked_calls.piece v images s blocks r t answer io).after ≡ EndsWith (One (mark p k x s)))
+    × ((marked_calls.piece v images s blocks r t answer io).calls ≡ 0))
     (sym f)
     (subst (λ (u : Stage).
     ((marked_calls.piece v images s blocks p u answer io).objects ≡ marked p k (mark p k x s) s)
-    × ((marked_calls.piece v images s blocks p u answer io).after ≡ EndsWith (One (mark p k x s))))
-    (sym e) (refl, refl))
+    × ((marked_calls.piece v images s blocks p u answer io).after ≡ EndsWith (One (mark p k x s)))
+    × ((marked_calls.piece v images s blocks p u answer io).calls ≡ 0))
+    (sym e) (refl, refl, refl))
+
+-- a list of no calls
+no_calls : (io : List Bool) → length io ≡ 0 → io ≡ []
+no_calls [] h = refl
+no_calls (b ∷ io) h = cc
 
 -- what a poke leaves that came out as they have it
 pub poke_left : (v : World) (images : ImageTable) (s u : Objects) (p q k x : ℕ) (t : Stage)
@@ -108,11 +119,11 @@ pub poke_left : (v : World) (images : ImageTable) (s u : Objects) (p q k x : ℕ
     t ≡ stage (Poke k x) 0 → q ≡ p →
     PieceMatchesSome v (λ blocks io. marked_calls.piece v images s blocks q t answer io) u gave
     after log →
-    (u ≡ marked p k (mark p k x s) s) × (after ≡ EndsWith (One (mark p k x s)))
+    (u ≡ marked p k (mark p k x s) s) × (after ≡ EndsWith (One (mark p k x s))) × (log ≡ [])
 poke_left v images s u p q k x t answer gave after log e f h =
     let l = h.left [] in
     let m = poke_leaves v images s h.blocks p q k x t answer (log ++ []) e f in
-    (l.objects ∙ m.0, l.next ∙ m.1)
+    (l.objects ∙ m.0, l.next ∙ m.1, no_calls log (l.calls_made ∙ m.2))
 
 -- what holds anyhow holds of a failure
 pub if_failed : {A E : Type 0} {P : Type 0} (r : Result A E) → P → IfErr r (λ _. P)
