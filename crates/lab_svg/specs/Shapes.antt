@@ -1,5 +1,5 @@
 -- The shapes of a picture, as they are written.
-use Rattle.std.specs.Prelude.{ℕ, ◌+◌, ◌-◌, ◌^◌, min, List, [], ◌∷◌, ◌++◌, codes, decimal, flat_map}
+use Rattle.std.specs.Prelude.{ℕ, ◌+◌, ◌-◌, ◌^◌, min, List, ◌∷◌, ◌++◌, codes, decimal, flat_map}
 use Rattle.lab_svg.specs.declared.shapes.At.{At}
 use Rattle.lab_svg.specs.Escapes.{escaped}
 
