@@ -1,2 +1,4 @@
 pub mod Outside
 pub mod Places
+pub mod Seats
+pub mod Seen

@@ -1,13 +1,15 @@
 //! Memory: the segment of a level, and what is outside it before and after its instructions.
 
-ghost use Rattle.std.specs.Prelude.{◌≡◌, ◌≤◌, ◌+◌, ◌%◌, ◌++◌, length, take, drop, slice_range};
+ghost use Rattle.std.specs.Prelude.{◌≡◌, ◌≤◌, ◌+◌, ◌%◌, ◌==◌, ◌&&◌, ◌++◌, cond, false, length, take, drop, slice_range, OnOk};
 ghost use Rattle.lab_levels.specs.Outside as spec;
+ghost use Rattle.lab_levels.specs.Places as places;
 
 use crate::view::LevelRow;
 use kernel_model::NoMemory;
 use lab_weave::{append, append_with};
 use ram_space::{RAM_BYTES, Ram};
 use std::alloc::Global;
+use std::marker::Model;
 
 /// Where the first segment begins in memory.
 const FIRST_SEGMENT: usize = 262_144;
@@ -72,7 +74,9 @@ fn take_over(kept: &mut [u8], memory: &Ram, from: usize)
 }
 
 /// Whether a level took an instruction between two moments, and went on.
-fn has_gone_on(before: &LevelRow, after: &LevelRow) -> bool {
+fn has_gone_on(before: &LevelRow, after: &LevelRow) -> bool
+    ensures { result ≡ places.has_gone_on before.now after.now }
+{
     before.depth == after.depth && before.count.saturating_add(1) == after.count
 }
 
@@ -87,9 +91,84 @@ pub struct Outside {
     changing: u32,
 }
 
+impl Model for Outside {
+    ghost use Rattle.lab_levels.specs.Outside.{Compared};
+
+    ghost Value = { Compared };
+
+    ghost view = { λ o. record {
+      kept = o.memory.items;
+      is_current = o.is_current;
+      compared = o.compared;
+      changing = o.changing;
+    } };
+}
+
+/// Keeps the bytes of a memory.
+#[tactic(auto, using(crate::proofs::Ranges::page_more, crate::proofs::Ranges::all_pages))]
+fn keep_memory(kept: &mut Vec<u8>, memory: &Ram) -> Result<(), NoMemory>
+    ensures { OnOk result (kept.new.items ≡ memory.now) }
+{
+    kept.clear();
+    // The memory has all its bytes.
+    let _ = memory.bytes(0, 0);
+    for page in 0..RAM_BYTES / SEGMENT_BYTES as u32 {
+        let bytes = memory.bytes(SEGMENT_BYTES as u32 * page, SEGMENT_BYTES as u32);
+        append(kept, bytes)?;
+    }
+    Ok(())
+}
+
+/// Appends what is said before the counts.
+#[tactic(auto, unfolding(crate::specs::Outside::outside_said))]
+fn append_outside(out: &mut Vec<u8>) -> Result<(), NoMemory>
+    ensures { OnOk result (out.new.items ≡ out.old.items ++ spec.outside_said) }
+{
+    append(
+        out,
+        b"memory outside the graft's segment: bytes changed in ",
+    )
+}
+
+/// Appends a text, and a number behind it.
+#[tactic(auto, unfolding(crate::specs::Outside::numbered))]
+fn append_numbered(out: &mut Vec<u8>, text: &[u8], n: u32) -> Result<(), NoMemory>
+    ensures { OnOk result (out.new.items ≡ out.old.items ++ spec.numbered text.now n) }
+{
+    append_with(out, text, n)
+}
+
+/// Appends a count, or that it is none.
+#[tactic(auto, unfolding(crate::specs::Outside::count_said))]
+fn append_count(out: &mut Vec<u8>, n: u32) -> Result<(), NoMemory>
+    ensures { OnOk result (out.new.items ≡ out.old.items ++ spec.count_said n) }
+{
+    if n == 0 {
+        return append(out, b"none");
+    }
+    append_with(out, b"", n)
+}
+
+/// Appends how many of so many instructions changed bytes outside the segment of their level;
+/// nothing where none was compared.
+fn append_compared(out: &mut Vec<u8>, changing: u32, compared: u32) -> Result<(), NoMemory>
+    ensures { OnOk result (out.new.items
+        ≡ out.old.items ++ spec.compared_said changing compared) }
+{
+    if compared == 0 {
+        return Ok(());
+    }
+    append_outside(out)?;
+    append_count(out, changing)?;
+    append_numbered(out, b" of ", compared)?;
+    append(out, b" instructions")
+}
+
 impl Outside {
     /// No memory was seen yet.
-    pub fn new(alloc: Global) -> Outside {
+    pub fn new(alloc: Global) -> Outside
+        ensures { result ≡ spec.nothing_compared }
+    {
         Outside {
             memory: Vec::new(alloc),
             is_current: false,
@@ -98,27 +177,30 @@ impl Outside {
         }
     }
 
-    /// Keeps the bytes of the memory.
-    pub fn see(&mut self, memory: &Ram) -> Result<(), NoMemory> {
+    /// Keeps the bytes of the memory, but where nothing was run since they were kept.
+    pub fn see(&mut self, memory: &Ram) -> Result<(), NoMemory>
+        ensures { OnOk result (self.new ≡ cond
+            (self.old.is_current && length self.old.kept == RAM_BYTES) self.old
+            (record self.old { kept = memory.now })) }
+    {
         if self.is_current && self.memory.len() == RAM_BYTES as usize {
             return Ok(());
         }
-        self.memory.clear();
-        for page in 0..RAM_BYTES / SEGMENT_BYTES as u32 {
-            let bytes = memory.bytes(SEGMENT_BYTES as u32 * page, SEGMENT_BYTES as u32);
-            append(&mut self.memory, bytes)?;
-        }
-        Ok(())
+        keep_memory(&mut self.memory, memory)
     }
 
     /// Something was run, so the memory may be another one.
-    pub fn pass(&mut self) {
+    pub fn pass(&mut self)
+        ensures { self.new ≡ record self.old { is_current = false } }
+    {
         self.is_current = false;
     }
 
     /// Compares the memory with what was seen last, if the innermost level of a process took an
     /// instruction and went on: these are that level before and after, and the memory now.
-    pub fn compare(&mut self, before: Option<LevelRow>, after: Option<LevelRow>, memory: &Ram) {
+    pub fn compare(&mut self, before: Option<LevelRow>, after: Option<LevelRow>, memory: &Ram)
+        ensures { self.new ≡ spec.compared_after before after memory.now self.old }
+    {
         if let (Some(before), Some(after)) = (before, after) {
             if has_gone_on(&before, &after) {
                 self.compare_level(&after, memory);
@@ -128,7 +210,10 @@ impl Outside {
 
     /// Compares the memory outside the segment of a level with what was seen last. Where that is the
     /// same, the segment alone is taken over.
-    fn compare_level(&mut self, level: &LevelRow, memory: &Ram) {
+    fn compare_level(&mut self, level: &LevelRow, memory: &Ram)
+        ensures { self.new ≡ spec.compared_at
+            (spec.segment_begin level.now.process level.now.depth) memory.now self.old }
+    {
         let from = segment_begin(level);
         let to = from + SEGMENT_BYTES;
         if self.memory.len() != RAM_BYTES as usize || to > RAM_BYTES as usize {
@@ -145,20 +230,10 @@ impl Outside {
 
     /// Appends how many instructions changed bytes outside the segment of their level; nothing where
     /// none was compared.
-    pub fn append_told(&self, out: &mut Vec<u8>) -> Result<(), NoMemory> {
-        if self.compared == 0 {
-            return Ok(());
-        }
-        append(
-            out,
-            b"memory outside the graft's segment: bytes changed in ",
-        )?;
-        if self.changing == 0 {
-            append(out, b"none")?;
-        } else {
-            append_with(out, b"", self.changing)?;
-        }
-        append_with(out, b" of ", self.compared)?;
-        append(out, b" instructions")
+    pub fn append_told(&self, out: &mut Vec<u8>) -> Result<(), NoMemory>
+        ensures { OnOk result (out.new.items
+            ≡ out.old.items ++ spec.compared_said self.now.changing self.now.compared) }
+    {
+        append_compared(out, self.changing, self.compared)
     }
 }

@@ -5,12 +5,14 @@
 
 ghost use Rattle.std.specs.Prelude.{◌≡◌, ◌<◌, ◌+◌, ◌*◌, ◌^◌, ◌-◌};
 ghost use Rattle.lab_levels.specs.Places as spec;
+ghost use Rattle.lab_levels.specs.Seats as seats;
 
 use crate::view::{LevelRow, PROCESSES, REGISTERS, View};
 use gm_isa::{Instr, Op};
 use kernel_model::NoMemory;
 use lab_weave::{append_with, count_of};
 use std::alloc::{AllocError, Global};
+use std::marker::Model;
 
 /// The most levels of a call.
 pub const LEVELS: u8 = 4;
@@ -44,6 +46,18 @@ pub struct Seats {
     seats: Vec<Seat>,
     registers: Vec<u32>,
     bytes: Vec<u8>,
+}
+
+impl Model for Seats {
+    ghost use Rattle.lab_levels.specs.Seats.{Known};
+
+    ghost Value = { Known };
+
+    ghost view = { λ s. record {
+      seats = s.seats.items;
+      registers = s.registers.items;
+      bytes = s.bytes.items;
+    } };
 }
 
 /// No level.
@@ -90,7 +104,9 @@ fn next_place(instr: &Instr, place: u32, value: u32) -> u32
 
 /// The seat of a level that is at this count now; `taken` is the instruction at which it was last
 /// seen, with the value of its first register.
-fn seat_after(seat: Seat, count: u32, taken: Option<(Instr, u32)>) -> Seat {
+fn seat_after(seat: Seat, count: u32, taken: Option<(Instr, u32)>) -> Seat
+    ensures { result ≡ spec.seat_after seat count taken }
+{
     let place = if count == 0 {
         Some(0)
     } else if seat.live && seat.count == count {
@@ -108,7 +124,9 @@ fn seat_after(seat: Seat, count: u32, taken: Option<(Instr, u32)>) -> Seat {
 }
 
 /// The place behind an instruction, with the value of its first register.
-fn place_after(place: Option<u32>, taken: Option<(Instr, u32)>) -> Option<u32> {
+fn place_after(place: Option<u32>, taken: Option<(Instr, u32)>) -> Option<u32>
+    ensures { result ≡ spec.place_behind place taken }
+{
     match (place, taken) {
         (Some(place), Some((instr, value))) if place < u32::MAX => {
             Some(next_place(&instr, place, value))
@@ -127,21 +145,27 @@ impl Seats {
     }
 
     /// What was last seen of a level.
-    pub fn seat(&self, p: u8, depth: u8) -> Seat {
+    pub fn seat(&self, p: u8, depth: u8) -> Seat
+        ensures { result ≡ seats.seat_of p depth self.now }
+    {
         match self.seats.get(seat_number(p, depth)) {
             Some(seat) => *seat,
             None => NOBODY,
         }
     }
 
-    fn put(&mut self, p: u8, depth: u8, seat: Seat) {
+    fn put(&mut self, p: u8, depth: u8, seat: Seat)
+        ensures { self.new ≡ seats.with_seat p depth seat self.old }
+    {
         if let Some(place) = self.seats.get_mut(seat_number(p, depth)) {
             *place = seat;
         }
     }
 
     /// A register of a level as it was last seen.
-    pub fn register(&self, p: u8, depth: u8, i: u8) -> u32 {
+    pub fn register(&self, p: u8, depth: u8, i: u8) -> u32
+        ensures { result ≡ seats.register_of p depth i self.now }
+    {
         match self
             .registers
             .get(16 * seat_number(p, depth) + usize::from(i))
@@ -160,7 +184,10 @@ impl Seats {
 
     /// A level is there now; `taken` is the instruction at which it was last seen, which it took if
     /// its count rose. Whether it is new.
-    pub fn follow(&mut self, level: &LevelRow, taken: Option<Instr>) -> bool {
+    pub fn follow(&mut self, level: &LevelRow, taken: Option<Instr>) -> bool
+        ensures seat { self.new ≡ seats.followed level.now taken self.old }
+        ensures is_new { result ≡ seats.is_new level.now self.old }
+    {
         let (p, depth) = (level.process, level.depth);
         let seat = self.seat(p, depth);
         let with_value = match taken {
@@ -172,7 +199,9 @@ impl Seats {
     }
 
     /// There is no such level now.
-    pub fn leave(&mut self, p: u8, depth: u8) {
+    pub fn leave(&mut self, p: u8, depth: u8)
+        ensures { self.new ≡ seats.with_seat p depth seats.nobody self.old }
+    {
         self.put(p, depth, NOBODY);
     }
 
@@ -186,7 +215,9 @@ impl Seats {
         }
     }
 
-    fn keep_register(&mut self, p: u8, depth: u8, i: u8, value: u32) {
+    fn keep_register(&mut self, p: u8, depth: u8, i: u8, value: u32)
+        ensures { self.new ≡ seats.with_register p depth i value self.old }
+    {
         let at = 16 * seat_number(p, depth) + usize::from(i);
         if let Some(place) = self.registers.get_mut(at) {
             *place = value;

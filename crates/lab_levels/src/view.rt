@@ -1,7 +1,11 @@
 //! What is seen of a kernel at a moment: its rows, and the registers of the innermost levels.
 
+ghost use Rattle.std.specs.Prelude.{◌≡◌, ◌++◌, [], ◌∷◌, OnOk};
+ghost use Rattle.lab_levels.specs.Seen as spec;
+
 use kernel_model::{NoMemory, RawRow};
 use std::alloc::Global;
+use std::marker::Model;
 
 /// The processes.
 pub const PROCESSES: u8 = 16;
@@ -35,8 +39,22 @@ pub struct View {
     registers: Vec<u32>,
 }
 
+impl Model for View {
+    ghost use Rattle.lab_levels.specs.Seen.{Seen};
+
+    ghost Value = { Seen };
+
+    ghost view = { λ v. record {
+      rows = v.rows.items;
+      levels = v.levels.items;
+      registers = v.registers.items;
+    } };
+}
+
 /// The level that a row shows, if it is the row of one.
-fn level_of(row: &RawRow) -> Option<LevelRow> {
+fn level_of(row: &RawRow) -> Option<LevelRow>
+    ensures { result ≡ spec.level_in row.now }
+{
     match row {
         RawRow::Level(process, depth, owner, point, count) => Some(LevelRow {
             process: *process,
@@ -50,16 +68,66 @@ fn level_of(row: &RawRow) -> Option<LevelRow> {
 }
 
 /// Puts an item behind others.
-fn put<T: Drop>(items: &mut Vec<T>, item: T) -> Result<(), NoMemory> {
+fn put<T: Drop>(items: &mut Vec<T>, item: T) -> Result<(), NoMemory>
+    ensures { OnOk result (items.new.items ≡ items.old.items ++ item ∷ []) }
+{
     match items.push(item) {
         Ok(()) => Ok(()),
         Err(_) => Err(NoMemory),
     }
 }
 
+/// Puts a level behind others, if there is one.
+fn put_level(levels: &mut Vec<LevelRow>, level: Option<LevelRow>) -> Result<(), NoMemory>
+    ensures { OnOk result (levels.new.items ≡ spec.with_level level levels.old.items) }
+{
+    match level {
+        Some(level) => put(levels, level),
+        None => Ok(()),
+    }
+}
+
+/// The level of a process at a depth, among others.
+fn level_among(levels: &[LevelRow], p: u8, depth: u8) -> Option<LevelRow>
+    ensures { result ≡ spec.level_at p depth levels.now }
+{
+    for level in levels {
+        if level.process == p && level.depth == depth {
+            return Some(*level);
+        }
+    }
+    None
+}
+
+/// The slot that a row shows, if it is the row of the graft of a process at a point.
+fn slot_in(row: &RawRow, owner: u8, point: u8) -> Option<u32>
+    ensures { result ≡ spec.slot_in owner point row.now }
+{
+    match row {
+        RawRow::Graft(q, pt, slot, _, _, _) if *q == owner && *pt == point => {
+            Some(u32::from(*slot))
+        }
+        _ => None,
+    }
+}
+
+/// The slot of the image that the graft of a process at a point has, in these rows.
+fn slot_among(rows: &[RawRow], owner: u8, point: u8) -> Option<u32>
+    ensures { result ≡ spec.slot_of owner point rows.now }
+{
+    for row in rows {
+        if let Some(slot) = slot_in(row, owner, point) {
+            return Some(slot);
+        }
+    }
+    None
+}
+
 impl View {
     /// Nothing was seen.
-    pub fn new(alloc: Global) -> View {
+    pub fn new(alloc: Global) -> View
+        ensures { result ≡ spec.nothing_seen }
+    {
         View {
             rows: Vec::new(alloc),
             levels: Vec::new(alloc),
@@ -68,58 +136,55 @@ impl View {
     }
 
     /// A row more is seen.
-    pub fn add_row(&mut self, row: RawRow) -> Result<(), NoMemory> {
-        if let Some(level) = level_of(&row) {
-            put(&mut self.levels, level)?;
-        }
+    pub fn add_row(&mut self, row: RawRow) -> Result<(), NoMemory>
+        ensures { OnOk result (self.new ≡ spec.with_row row self.old) }
+    {
+        put_level(&mut self.levels, level_of(&row))?;
         put(&mut self.rows, row)
     }
 
     /// A register more is seen.
-    pub fn add_register(&mut self, value: u32) -> Result<(), NoMemory> {
+    pub fn add_register(&mut self, value: u32) -> Result<(), NoMemory>
+        ensures { OnOk result (self.new ≡ spec.with_register value self.old) }
+    {
         put(&mut self.registers, value)
     }
 
     /// The rows that were seen.
-    pub fn rows(&self) -> &[RawRow] {
+    pub fn rows(&self) -> &[RawRow]
+        ensures { result.now ≡ self.now.rows }
+    {
         self.rows.as_slice()
     }
 
     /// The level of a process at a depth.
-    pub fn level(&self, p: u8, depth: u8) -> Option<LevelRow> {
-        for level in &self.levels {
-            if level.process == p && level.depth == depth {
-                return Some(*level);
-            }
-        }
-        None
+    pub fn level(&self, p: u8, depth: u8) -> Option<LevelRow>
+        ensures { result ≡ spec.level_at p depth self.now.levels }
+    {
+        level_among(self.levels.as_slice(), p, depth)
     }
 
     /// The innermost level of a process.
-    pub fn innermost(&self, p: u8) -> Option<LevelRow> {
-        let mut found = None;
-        for depth in 0..4 {
-            if let Some(level) = self.level(p, depth) {
-                found = Some(level);
-            }
-        }
-        found
+    pub fn innermost(&self, p: u8) -> Option<LevelRow>
+        ensures { result ≡ spec.innermost p self.now.levels }
+    {
+        self.level(p, 3)
+            .or(self.level(p, 2))
+            .or(self.level(p, 1))
+            .or(self.level(p, 0))
     }
 
     /// The slot of the image that the graft of a process at a point has.
-    pub fn slot(&self, owner: u8, point: u8) -> Option<u32> {
-        for row in &self.rows {
-            if let RawRow::Graft(q, pt, slot, _, _, _) = row {
-                if *q == owner && *pt == point {
-                    return Some(u32::from(*slot));
-                }
-            }
-        }
-        None
+    pub fn slot(&self, owner: u8, point: u8) -> Option<u32>
+        ensures { result ≡ spec.slot_of owner point self.now.rows }
+    {
+        slot_among(self.rows.as_slice(), owner, point)
     }
 
     /// A register of a process's innermost level.
-    pub fn register(&self, p: u8, i: u8) -> u32 {
+    pub fn register(&self, p: u8, i: u8) -> u32
+        ensures { result ≡ spec.register_of p i self.now.registers }
+    {
         let at = usize::from(p) * 16 + usize::from(i);
         match self.registers.get(at) {
             Some(value) => *value,

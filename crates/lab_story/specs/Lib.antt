@@ -1,3 +1,4 @@
 pub mod Bars
 pub mod Numbers
 pub mod Slow
+pub mod Story

@@ -2,6 +2,7 @@
 
 ghost use Rattle.std.specs.Prelude.{◌≡◌, [], ◌∷◌, ◌++◌, length, map, slice_index_or, IfOk, OnOk};
 ghost use Rattle.lab_story.specs.Bars as spec;
+ghost use Rattle.lab_story.specs.Story.{IsEmpty};
 
 use kernel_model::NoMemory;
 use std::alloc::Global;
@@ -134,7 +135,9 @@ pub struct Story<'a> {
 
 impl<'a> Story<'a> {
     /// Nothing yet.
-    pub fn new(alloc: Global) -> Story<'a> {
+    pub fn new(alloc: Global) -> Story<'a>
+        ensures { IsEmpty result }
+    {
         Story {
             bars: Vec::new(alloc),
             texts: Vec::new(alloc),

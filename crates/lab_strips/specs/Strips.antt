@@ -1,6 +1,9 @@
 -- What a strip shows, and by which class a bar is drawn.
-use Rattle.std.specs.Prelude.{ℕ, ◌==◌, ◌&&◌, Bool, cond, nat_le, List, codes}
+use Rattle.std.specs.Prelude.{ℕ, ◌+◌, ◌-◌, ◌^◌, ◌==◌, ◌&&◌, Bool, false, cond, min, max, nat_le, List, [], ◌∷◌, codes, count_by, slice_get, slice_index}
+use Rattle.std.specs.Option.{option_map_or}
 use Rattle.lab_story.specs.declared.story.Bar.{Bar}
+use Rattle.lab_story.specs.declared.story.DroppedGraft.{DroppedGraft}
+use Rattle.lab_story.specs.declared.story.PutBack.{PutBack}
 use Rattle.lab_story.specs.declared.story.End.{End}
 use Rattle.lab_story.specs.declared.story.End.TheVariants as ends
 use Rattle.lab_story.specs.declared.story.Kind.{Kind}
@@ -28,3 +31,24 @@ class_of kind.Call e = codes "call"
 class_of kind.Wait e = codes "wait"
 class_of (kind.Level level) ends.Dropped = codes "dropped"
 class_of (kind.Level level) e = level_class level
+
+-- the level of a bar; 0 for a call and for a wait
+abbrev pub level_of : Kind → ℕ
+level_of kind.Call = 0
+level_of kind.Wait = 0
+level_of (kind.Level level) = level
+
+-- the most levels of some bars
+abbrev pub most_levels : List Bar → ℕ
+most_levels [] = 0
+most_levels (bar ∷ bars) = max (level_of bar.kind) (most_levels bars)
+
+-- a record was put back by a drop in one of the events from the first to the last one
+abbrev pub is_put_back : (first last : ℕ) → List DroppedGraft → PutBack → Bool
+is_put_back first last drops r =
+    option_map_or (λ (d : DroppedGraft). has first last d.event) (slice_get drops r.drop) false
+
+-- how many of the records were, as far as a number of 32 bits counts them
+abbrev pub records_within : (first last : ℕ) → List DroppedGraft → List PutBack → ℕ
+records_within first last drops records =
+    min (count_by (is_put_back first last drops) records) (2 ^ 32 - 1)

@@ -1,6 +1,6 @@
 //! Where things stand in a picture. All lengths are in units of a picture that is 1,000 wide.
 
-ghost use Rattle.std.specs.Prelude.{◌≡◌};
+ghost use Rattle.std.specs.Prelude.{◌≡◌, slice_index};
 ghost use Rattle.lab_strips.specs.Strips as spec;
 
 use lab_story::{Bar, Kind, Story};
@@ -119,7 +119,9 @@ impl Strip {
     }
 
     /// The number of the lane of a process, from 1; 0 where it has none.
-    pub fn lane(&self, process: u32) -> u32 {
+    pub fn lane(&self, process: u32) -> u32
+        ensures { result ≡ slice_index self.now.lanes process }
+    {
         match self.lanes.get(process as usize) {
             Some(lane) => *lane,
             None => 0,
@@ -159,7 +161,10 @@ impl Strip {
 }
 
 /// How many records were put back in the events of a strip.
-pub fn count_records(strip: &Strip, story: &Story) -> u32 {
+pub fn count_records(strip: &Strip, story: &Story) -> u32
+    ensures { result ≡ spec.records_within strip.now.first strip.now.last
+        story.now.drops.items story.now.put_back.items }
+{
     let mut count: u32 = 0;
     for record in &story.put_back {
         if let Some(drop) = story.drops.get(record.drop) {
@@ -195,7 +200,9 @@ fn number_lanes(lanes: &mut [u32]) {
 }
 
 /// The most levels of a bar.
-pub fn levels_of(bars: &[Bar]) -> u32 {
+pub fn levels_of(bars: &[Bar]) -> u32
+    ensures { result ≡ spec.most_levels bars.now }
+{
     let mut most = 0;
     for bar in bars {
         if let Kind::Level(level) = bar.kind {
