@@ -137,7 +137,7 @@ impl<C: Calls, B: Policy> Kernel<C, B> {
             IsAtRest C.Meaning.meaning (session.add_image slot image k) }
         ensures sound { IsSound C.Meaning.meaning self.new.running }
         ensures changed { let x = self.old.running in self.new ≡ record self.old {
-            running = record x { images = slice_set x.images slot (Some image) };
+          running = record x { images = slice_set x.images slot (Some image) };
         } }
     {
         self.running.add_image(slot, image);

@@ -152,7 +152,7 @@ fn append_count(out: &mut Vec<u8>, n: u32) -> Result<(), NoMemory>
 /// Appends how many of so many instructions changed bytes outside the segment of their level;
 /// nothing where none was compared.
 fn append_compared(out: &mut Vec<u8>, changing: u32, compared: u32) -> Result<(), NoMemory>
-    ensures { OnOk result (out.new.items
+    ensures said { OnOk result (out.new.items
         ≡ out.old.items ++ spec.compared_said changing compared) }
 {
     if compared == 0 {
@@ -231,7 +231,7 @@ impl Outside {
     /// Appends how many instructions changed bytes outside the segment of their level; nothing where
     /// none was compared.
     pub fn append_told(&self, out: &mut Vec<u8>) -> Result<(), NoMemory>
-        ensures { OnOk result (out.new.items
+        ensures told { OnOk result (out.new.items
             ≡ out.old.items ++ spec.compared_said self.now.changing self.now.compared) }
     {
         append_compared(out, self.changing, self.compared)

@@ -43,7 +43,7 @@ pub fn rectangle(
     width: u32,
     height: u32,
 ) -> Result<(), NoMemory>
-    ensures { OnOk result (out.new.items
+    ensures shape { OnOk result (out.new.items
         ≡ out.old.items ++ spec.rectangle class.now at width height) }
 {
     append(out, b"<rect")?;
@@ -128,7 +128,7 @@ fn append_rising(out: &mut Vec<u8>, at: At) -> Result<(), NoMemory>
 
 /// A text of a class that rises to the right.
 pub fn rising_text(out: &mut Vec<u8>, class: &[u8], at: At, said: &[u8]) -> Result<(), NoMemory>
-    ensures { OnOk result (out.new.items
+    ensures shape { OnOk result (out.new.items
         ≡ out.old.items ++ spec.rising_text class.now at said.now) }
 {
     begin_text(out, class, at)?;

@@ -63,3 +63,6 @@ within_more texts text lines place within =
     All-push (IsWithin (length (texts ++ text))) lines (behind_all texts text place)
     (within_still texts text lines within)
     (omega (arith, length-append texts text), omega arith)
+
+-- what a line more needs
+pub ruleset collects = (line_more, within_more, within_still)

@@ -64,7 +64,7 @@ pub fn append_with(out: &mut Vec<u8>, text: &[u8], n: u32) -> Result<(), NoMemor
 }
 
 /// Puts a line with this place and text behind the others.
-#[tactic(auto, using(crate::proofs::Collecting::line_more, crate::proofs::Collecting::within_more, crate::proofs::Collecting::within_still))]
+#[tactic(auto, using(crate::proofs::Collecting::collects))]
 fn push_line(
     texts: &mut Vec<u8>,
     lines: &mut Vec<OwnLine>,
