@@ -1,7 +1,7 @@
 //! The run of a script by the call `vino`, over streams in memory.
 #![tactic(auto)]
 
-ghost use Rattle.std.specs.Prelude.{◌≡◌, [], ◌∷◌, map, codes, string_bytes, IfOk};
+ghost use Rattle.std.specs.Prelude.{◌≡◌, [], ◌∷◌, map, codes, string_bytes, IfOk, OnErr};
 ghost use Rattle.kernel_model.specs.Opening.{opening_policy};
 ghost use Rattle.graft_points.specs.Shelf.{IsShelf, pol_of, first_choice};
 ghost use Rattle.lab_run.specs.Running.{RunsScript};
@@ -58,6 +58,8 @@ pub fn run_script<D: Disk>(
     // The status, the lines and the disk are those of the call.
     ensures runs { IfOk result (λ ran. RunsScript keys.now script.items ran.source ran.lines
         (D.seen disk.old) (D.seen disk.new) ran.status) }
+    // Where there is no memory for the words of the call, it isn't made.
+    ensures unmade { OnErr result (D.seen disk.new ≡ D.seen disk.old) }
 {
     let words = words_of(alloc, keys)?;
     let mut source = MemSource::new(script, Vec::new(alloc));
