@@ -1,5 +1,4 @@
 -- A piece of the table of high marks is one of the plain table, with an answer of its own.
-use Rattle.std.specs.Prelude.{IfErr}
 use Rattle.std.proofs.Common.{Result, ◌≡◌, ℕ, ◌<◌, nat_lt, Bool, true, false, List, [], ◌∷◌, ◌++◌, length, Option, None, Some, Ok, Err, refl, sym, subst, ap, ◌∙◌, arith}
 use Rattle.std.proofs.lemmas.Bool.Decides.{nat_tests}
 use Rattle.kernel_model.specs.declared.Refusal.{Refusal}
@@ -124,8 +123,3 @@ poke_left v images s u p q k x t answer gave after log e f h =
     let l = h.left [] in
     let m = poke_leaves v images s h.blocks p q k x t answer (log ++ []) e f in
     (l.objects ∙ m.0, l.next ∙ m.1, no_calls log (l.calls_made ∙ m.2))
-
--- what holds anyhow holds of a failure
-pub if_failed : {A E : Type 0} {P : Type 0} (r : Result A E) → P → IfErr r (λ _. P)
-if_failed (Ok a) h = tt
-if_failed (Err e) h = h

@@ -45,9 +45,11 @@ pub fn poke_once<B: Policy, D: Disk>(
 {
     let mut work = Work::new();
     let call = BareCall::Poke(k, x);
-    if let Err(refusal) = MarkedCalls::early(store, 0, p, call, &ArrayVec::new(), &mut work) {
-        return Err(refusal);
+    match MarkedCalls::early(store, 0, p, call, &ArrayVec::new(), &mut work) {
+        Err(refusal) => Err(refusal),
+        Ok(()) => {
+            let mut log = DiskLog::new();
+            Ok(MarkedCalls::piece(&mut work, store, None, disk, &mut log, &mut Gift::new()))
+        }
     }
-    let mut log = DiskLog::new();
-    Ok(MarkedCalls::piece(&mut work, store, None, disk, &mut log, &mut Gift::new()))
 }

@@ -3,7 +3,7 @@
 ghost use Rattle.std.specs.Prelude.{◌≡◌, slice_index};
 ghost use Rattle.lab_strips.specs.Strips as spec;
 
-use lab_story::{Bar, Kind, Story};
+use lab_story::{Bar, DroppedGraft, Kind, PutBack, Story};
 
 /// The events beside each other before the picture goes on below.
 pub const PER_STRIP: u32 = 28;
@@ -160,20 +160,28 @@ impl Strip {
     }
 }
 
+/// Whether a record was put back by a drop in an event of a strip.
+fn is_put_back(strip: &Strip, drops: &[DroppedGraft], undone: &PutBack) -> bool
+    ensures { result ≡ spec.is_put_back strip.now.first strip.now.last drops.now undone.now }
+{
+    match drops.get(undone.drop) {
+        Some(drop) => strip.has(drop.event),
+        None => false,
+    }
+}
+
 /// How many records were put back in the events of a strip.
 pub fn count_records(strip: &Strip, story: &Story) -> u32
     ensures { result ≡ spec.records_within strip.now.first strip.now.last
         story.now.drops.items story.now.put_back.items }
 {
-    let mut count: u32 = 0;
-    for record in &story.put_back {
-        if let Some(drop) = story.drops.get(record.drop) {
-            if strip.has(drop.event) {
-                count = count.saturating_add(1);
-            }
-        }
-    }
-    count
+    let drops = story.drops.as_slice();
+    let records = story.put_back.as_slice();
+    let count = records
+        .iter()
+        .filter(|undone| is_put_back(strip, drops, undone))
+        .count();
+    u32::try_from(count).unwrap_or(u32::MAX)
 }
 
 /// The lanes of the processes that have a bar, in the order of their numbers.

@@ -50,4 +50,4 @@ returns-then-self-clause-runs g c = λ keys.
 pub returns-else-self-clause-runs : goal.returns-else-self-clause-runs
 returns-else-self-clause-runs g c = λ keys.
     unbooted_runs (place keys (g.D.Disk.seen c.args.disk.now).size) (Happens (event_with c.args.event c.args.out.now.bytes.items)) (seen_of c.args.self.now) _ (g.D.Disk.seen c.args.disk.now) (λ a rest. refl) (λ p. refl) c.if-self.false
-    c.requires.empty (silent_event _ _ _ (event_with c.args.event c.args.out.now.bytes.items) c.requires.empty)
+    c.requires.empty (silent_event (seen_of c.args.self.now).setup.frames (g.D.Disk.seen c.args.disk.now).size _ (event_with c.args.event c.args.out.now.bytes.items) c.requires.empty)
