@@ -166,6 +166,7 @@ impl Calls for Plain {
         &[]
     }
 
+    #[inline(always)]
     fn piece<B: Policy, D: Disk>(
         work: &mut Work,
         store: &mut Store<B>,

@@ -52,6 +52,7 @@ pub(crate) fn exit<B: Policy>(store: &mut Store<B>, p: u8) -> Next
 }
 
 /// The process that an answer chooses, which lives, or else the one that is next by default.
+#[inline(always)]
 fn turn<B: Policy>(store: &Store<B>, answer: Option<[u32; 4]>) -> u8
     requires right { IfSome answer (λ a. lives (queue_of store.now) (slice_index a 0) ≡ true) }
     ensures value { result

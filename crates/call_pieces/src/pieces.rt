@@ -28,7 +28,9 @@ use vino_base::Disk;
 /// The next piece of a call, with an answer to the point that it asks, or by default.
 ///
 /// The log starts empty and has this piece's calls of the disk then; the gift has what the piece
-/// gave, whatever it had. Where the call goes on, it carries nothing.
+/// gave, whatever it had. Where the call goes on, it carries nothing. It is always inlined, so that an
+/// answer and what follows a piece aren't moved.
+#[inline(always)]
 pub fn piece<B: Policy, D: Disk>(
     work: &mut Work,
     store: &mut Store<B>,
@@ -55,6 +57,7 @@ pub fn piece<B: Policy, D: Disk>(
 }
 
 /// The same, but for what the call carries, which stays.
+#[inline(always)]
 fn bare_piece<B: Policy, D: Disk>(
     work: &mut Work,
     store: &mut Store<B>,

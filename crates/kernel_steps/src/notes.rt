@@ -120,7 +120,9 @@ impl Notes {
         }
     }
 
-    /// The note of bytes that a piece gave, if it gave some.
+    /// The note of bytes that a piece gave, if it gave some. It is always inlined, since mostly it
+    /// gave none.
+    #[inline(always)]
     pub fn push_bytes(&mut self, number: u32, gave: &Gift)
         ensures { Adds (gave_note number gave.now) self.old self.new }
     {
