@@ -6,6 +6,7 @@ mod sink;
 mod telling;
 mod testing;
 mod text;
+mod written;
 
 pub use crate::pieces::{Piece, pieces_of};
 pub use crate::sink::LineSink;

@@ -1,22 +1,19 @@
 //! Wanted lines, compared with those that were written.
 
-ghost use Rattle.std.specs.Prelude.{◌≡◌};
+ghost use Rattle.std.specs.Prelude.{◌≡◌, ◌≤◌, ◌==◌, ◌↔◌, [], length, not, OnOk, IfOk};
+ghost use Rattle.lab_lines.specs.AsWanted.{AsWanted, WantsInOrder, PiecesInOrder, is_extra};
+ghost use Rattle.lab_lines.specs.AsWanted as wanted;
+ghost use Rattle.lab_lines.specs.Differences.{TellsOne, TellsIf, Steps, count_ahead};
 ghost use Rattle.lab_lines.specs.Wanted as spec;
 
 use crate::pieces::Piece;
 use crate::text::{add, add_number};
+use crate::written::{Wrote, all_lines};
 use kernel_model::NoMemory;
 use lab_text::{Sheet, Want};
 use lab_words::tell as words_of;
 use std::alloc::Global;
 use text_words::Parts;
-
-/// A line that was written, and the number of the line of the script to which it belongs.
-#[derive(Clone, Copy)]
-struct Wrote<'a> {
-    owner: usize,
-    line: &'a [u8],
-}
 
 /// What differs, a line each, and how much does.
 #[derive(Drop)]
@@ -25,31 +22,6 @@ pub struct Compared {
     pub text: Vec<u8>,
     /// How many they are.
     pub differences: usize,
-}
-
-/// Appends the lines of a piece.
-fn add_lines<'a>(out: &mut Vec<Wrote<'a>>, owner: usize, piece: &'a [u8]) -> Result<(), NoMemory> {
-    let mut lines = Parts::new(piece, b'\n');
-    while let Some(line) = lines.next() {
-        if !line.is_empty() && out.push(Wrote { owner, line }).is_err() {
-            return Err(NoMemory);
-        }
-    }
-    Ok(())
-}
-
-/// All lines that were written. Those at the end of the run belong to the last line of the script.
-fn all_lines<'a>(
-    alloc: Global,
-    last: usize,
-    pieces: &[Piece<'a>],
-) -> Result<Vec<Wrote<'a>>, NoMemory> {
-    let mut lines = Vec::new(alloc);
-    for piece in pieces {
-        let owner = if piece.owner == 0 { last } else { piece.owner };
-        add_lines(&mut lines, owner, piece.bytes)?;
-    }
-    Ok(lines)
 }
 
 /// Whether a wanted word stands for a word: for itself, and `*` for any.
@@ -79,21 +51,42 @@ pub fn is_wanted(want: &[u8], line: &[u8]) -> bool
 }
 
 /// Appends a line in quotes, with its words in brackets.
-fn add_quoted(alloc: Global, out: &mut Vec<u8>, line: &[u8]) -> Result<(), NoMemory> {
+fn add_quoted(alloc: Global, out: &mut Vec<u8>, line: &[u8]) -> Result<(), NoMemory>
+    ensures { OnOk result (length out.old.items ≤ length out.new.items) }
+{
     add(out, b"'")?;
     add(out, line)?;
     add(out, b"'")?;
     if let Some(words) = words_of(alloc, line)? {
-        add(out, b" (")?;
-        add(out, words.as_slice())?;
-        add(out, b")")?;
+        return add_words(out, words.as_slice());
     }
     Ok(())
 }
 
+/// Appends the words of a line in brackets.
+fn add_words(out: &mut Vec<u8>, words: &[u8]) -> Result<(), NoMemory>
+    ensures { OnOk result (length out.old.items ≤ length out.new.items) }
+{
+    add(out, b" (")?;
+    add(out, words)?;
+    add(out, b")")
+}
+
+/// Appends a line in quotes, or that there is none.
+fn add_got(alloc: Global, out: &mut Vec<u8>, got: Option<&[u8]>) -> Result<(), NoMemory>
+    ensures { OnOk result (length out.old.items ≤ length out.new.items) }
+{
+    match got {
+        Some(line) => add_quoted(alloc, out, line),
+        None => add(out, b"nothing"),
+    }
+}
+
 impl Compared {
     /// Begins to tell of a difference in this line of this file.
-    fn begin(&mut self, file: &[u8], line: usize) -> Result<(), NoMemory> {
+    fn begin(&mut self, file: &[u8], line: usize) -> Result<(), NoMemory>
+        ensures { OnOk result (TellsOne self.old self.new) }
+    {
         self.differences = self.differences.saturating_add(1);
         add(&mut self.text, file)?;
         add(&mut self.text, b": line ")?;
@@ -108,113 +101,25 @@ impl Compared {
         file: &[u8],
         want: &Want,
         got: Option<&[u8]>,
-    ) -> Result<(), NoMemory> {
+    ) -> Result<(), NoMemory>
+        ensures { OnOk result (TellsOne self.old self.new) }
+    {
         self.begin(file, want.line)?;
         add(&mut self.text, b"wanted '")?;
         add(&mut self.text, want.text.bytes())?;
         add(&mut self.text, b"', got ")?;
-        match got {
-            Some(line) => add_quoted(alloc, &mut self.text, line)?,
-            None => add(&mut self.text, b"nothing")?,
-        }
+        add_got(alloc, &mut self.text, got)?;
         add(&mut self.text, b"\n")
     }
 
     /// A line was written that isn't wanted.
-    fn add_extra(&mut self, alloc: Global, file: &[u8], wrote: Wrote) -> Result<(), NoMemory> {
+    fn add_extra(&mut self, alloc: Global, file: &[u8], wrote: &Wrote) -> Result<(), NoMemory>
+        ensures { OnOk result (TellsOne self.old self.new) }
+    {
         self.begin(file, wrote.owner)?;
         add(&mut self.text, b"got ")?;
         add_quoted(alloc, &mut self.text, wrote.line)?;
         add(&mut self.text, b", which isn't wanted\n")
-    }
-}
-
-/// Compares wanted lines with those that were written, in their order. Of a line of the script with
-/// wanted lines exactly those are to be written; of others only a refusal tells.
-pub fn compare(
-    alloc: Global,
-    file: &[u8],
-    sheet: &Sheet,
-    pieces: &[Piece],
-) -> Result<Compared, NoMemory> {
-    let lines = all_lines(alloc, sheet.last(), pieces)?;
-    let wants = sheet.wants();
-    let mut told = Compared {
-        text: Vec::new(alloc),
-        differences: 0,
-    };
-    let mut at = Place {
-        want: 0,
-        wrote: 0,
-        owner: 0,
-    };
-    for _ in 0..wants.len().saturating_add(lines.len()) {
-        let pair = (wants.get(at.want), lines.get(at.wrote));
-        at = told.compare_next(alloc, file, pair, at)?;
-    }
-    Ok(told)
-}
-
-/// How many wanted and how many written lines were compared, and the line of the script to which
-/// the last wanted one of them belongs.
-#[derive(Clone, Copy)]
-struct Place {
-    want: usize,
-    wrote: usize,
-    owner: usize,
-}
-
-/// The place behind a wanted line.
-fn behind_want(at: Place, owner: usize) -> Place {
-    Place {
-        want: at.want.saturating_add(1),
-        wrote: at.wrote,
-        owner,
-    }
-}
-
-/// The place behind a written line.
-fn behind_wrote(at: Place) -> Place {
-    Place {
-        want: at.want,
-        wrote: at.wrote.saturating_add(1),
-        owner: at.owner,
-    }
-}
-
-impl Compared {
-    /// Compares the next wanted with the next written line: the place behind the one that belongs to
-    /// the earlier line of the script, or behind both.
-    fn compare_next(
-        &mut self,
-        alloc: Global,
-        file: &[u8],
-        next: (Option<&Want>, Option<&Wrote>),
-        at: Place,
-    ) -> Result<Place, NoMemory> {
-        match next {
-            (None, None) => Ok(at),
-            (Some(want), None) => {
-                self.add_missing(alloc, file, want, None)?;
-                Ok(behind_want(at, want.owner))
-            }
-            (None, Some(wrote)) => {
-                self.add_unwanted(alloc, file, *wrote, at.owner)?;
-                Ok(behind_wrote(at))
-            }
-            (Some(want), Some(wrote)) => {
-                if want.owner < wrote.owner {
-                    self.add_missing(alloc, file, want, None)?;
-                    return Ok(behind_want(at, want.owner));
-                }
-                if wrote.owner < want.owner {
-                    self.add_unwanted(alloc, file, *wrote, at.owner)?;
-                    return Ok(behind_wrote(at));
-                }
-                self.add_pair(alloc, file, want, wrote.line)?;
-                Ok(behind_wrote(behind_want(at, want.owner)))
-            }
-        }
     }
 
     /// A written line for which nothing is wanted: it tells where it belongs to a line with wanted
@@ -223,10 +128,12 @@ impl Compared {
         &mut self,
         alloc: Global,
         file: &[u8],
-        wrote: Wrote,
+        wrote: &Wrote,
         owner: usize,
-    ) -> Result<(), NoMemory> {
-        if wrote.owner == owner || wrote.line.starts_with(b"script ") {
+    ) -> Result<(), NoMemory>
+        ensures { OnOk result (TellsIf (is_extra owner wrote.now) self.old self.new) }
+    {
+        if wrote.owner == owner || is_refusal(wrote.line) {
             return self.add_extra(alloc, file, wrote);
         }
         Ok(())
@@ -238,11 +145,133 @@ impl Compared {
         alloc: Global,
         file: &[u8],
         want: &Want,
-        line: &[u8],
-    ) -> Result<(), NoMemory> {
-        if is_wanted(want.text.bytes(), line) {
+        wrote: &Wrote,
+    ) -> Result<(), NoMemory>
+        ensures { OnOk result
+            (TellsIf (not (spec.is_wanted want.now.text wrote.now.text)) self.old self.new) }
+    {
+        if is_wanted(want.text.bytes(), wrote.line) {
             return Ok(());
         }
-        self.add_missing(alloc, file, want, Some(line))
+        self.add_missing(alloc, file, want, Some(wrote.line))
     }
+}
+
+/// Whether a line says that a line of the script is refused.
+fn is_refusal(line: &[u8]) -> bool
+    ensures { result ≡ wanted.is_refusal line.now }
+{
+    line.starts_with(b"script ")
+}
+
+/// The lines that are still to be compared, and the line of the script to which the last wanted one
+/// before them belongs.
+#[derive(Clone, Copy)]
+struct Ahead<'a> {
+    owner: usize,
+    wants: &'a [Want],
+    lines: &'a [Wrote<'a>],
+}
+
+/// Whether no line is ahead.
+fn is_over(ahead: &Ahead) -> bool
+    ensures { result ≡ (count_ahead ahead.now == 0) }
+{
+    ahead.wants.is_empty() && ahead.lines.is_empty()
+}
+
+impl Compared {
+    /// Compares the next wanted with the next written line: what is behind the one that belongs to
+    /// the earlier line of the script, or behind both.
+    fn compare_next<'a>(
+        &mut self,
+        alloc: Global,
+        file: &[u8],
+        ahead: Ahead<'a>,
+    ) -> Result<Ahead<'a>, NoMemory>
+        ensures { IfOk result (λ next. Steps self.old self.new ahead.entry next) }
+    {
+        let Some((want, wants)) = ahead.wants.split_first() else {
+            return self.compare_line(alloc, file, ahead);
+        };
+        let owner = want.owner;
+        let Some((wrote, lines)) = ahead.lines.split_first() else {
+            self.add_missing(alloc, file, want, None)?;
+            return Ok(Ahead {
+                owner,
+                wants,
+                ..ahead
+            });
+        };
+        if owner < wrote.owner {
+            self.add_missing(alloc, file, want, None)?;
+            return Ok(Ahead {
+                owner,
+                wants,
+                ..ahead
+            });
+        }
+        if wrote.owner < owner {
+            self.add_unwanted(alloc, file, wrote, ahead.owner)?;
+            return Ok(Ahead { lines, ..ahead });
+        }
+        self.add_pair(alloc, file, want, wrote)?;
+        Ok(Ahead {
+            owner,
+            wants,
+            lines,
+        })
+    }
+
+    /// The same where no line is wanted any more.
+    fn compare_line<'a>(
+        &mut self,
+        alloc: Global,
+        file: &[u8],
+        ahead: Ahead<'a>,
+    ) -> Result<Ahead<'a>, NoMemory>
+        requires { ahead.wants.now ≡ [] }
+        ensures { IfOk result (λ next. Steps self.old self.new ahead.entry next) }
+    {
+        let Some((wrote, lines)) = ahead.lines.split_first() else {
+            return Ok(ahead);
+        };
+        self.add_unwanted(alloc, file, wrote, ahead.owner)?;
+        Ok(Ahead { lines, ..ahead })
+    }
+}
+
+/// Compares wanted lines with those that were written, in their order. Of a line of the script with
+/// wanted lines exactly those are to be written; of others only a refusal tells.
+pub fn compare(
+    alloc: Global,
+    file: &[u8],
+    sheet: &Sheet,
+    pieces: &[Piece],
+) -> Result<Compared, NoMemory>
+    // Where the pieces come in the order of the lines of the script, no difference is told only
+    // where all is as wanted.
+    ensures trusted { IfOk result (λ told. PiecesInOrder 0 sheet.now.last pieces.now →
+        told.differences ≡ 0 → AsWanted sheet.now.wants sheet.now.last pieces.now) }
+    // Where all is as wanted, none is told.
+    ensures silent { IfOk result (λ told. WantsInOrder sheet.now.wants →
+        PiecesInOrder 1 sheet.now.last pieces.now →
+        AsWanted sheet.now.wants sheet.now.last pieces.now → told.differences ≡ 0) }
+    // There is text exactly where a difference is told.
+    ensures text { IfOk result (λ told. (told.text.items ≡ []) ↔ (told.differences ≡ 0)) }
+{
+    let lines = all_lines(alloc, sheet.last(), pieces)?;
+    let mut told = Compared {
+        text: Vec::new(alloc),
+        differences: 0,
+    };
+    let mut ahead = Ahead {
+        owner: 0,
+        wants: sheet.wants(),
+        lines: lines.as_slice(),
+    };
+    while !is_over(&ahead) {
+        ahead = told.compare_next(alloc, file, ahead)?;
+    }
+    Ok(told)
 }
