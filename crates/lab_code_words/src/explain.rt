@@ -1,8 +1,10 @@
 //! What is said of codes, as text: of one, and the page of all of them.
 
-ghost use Rattle.std.specs.Prelude.{◌≡◌, ◌++◌, OnOk};
+ghost use Rattle.std.specs.Prelude.{◌≡◌, ◌++◌, OnOk, IfOk};
+ghost use Rattle.lab_code_words.specs.Rows as rows;
 
 use crate::entry::{page_of, words_of};
+use crate::words::Words;
 use kernel_model::NoMemory;
 use lab_codes::{CODES, Code, text_of};
 use std::alloc::Global;
@@ -23,20 +25,34 @@ pub fn append(out: &mut Vec<u8>, bytes: &[u8]) -> Result<(), NoMemory>
     }
 }
 
+#[tactic(auto, unfolding(crate::specs::Rows::part))]
+/// Appends words and the text behind them.
+fn append_part(out: &mut Vec<u8>, before: &[u8], text: &str) -> Result<(), NoMemory>
+    ensures { OnOk result (out.new.items ≡ out.old.items ++ rows.part before.now text.now) }
+{
+    append(out, before)?;
+    append(out, text.as_bytes())
+}
+
+/// Appends what a row says of its code, in lines.
+fn append_explained(out: &mut Vec<u8>, code: Code, words: &Words) -> Result<(), NoMemory>
+    ensures { OnOk result (out.new.items ≡ out.old.items ++ rows.explained code words.now) }
+{
+    append(out, text_of(code))?;
+    append_part(out, b": ", words.meaning)?;
+    append_part(out, b"\n  ", words.cause)?;
+    append_part(out, b"\n  described in ", page_of(code))?;
+    append_part(out, b"\n  shown by ", words.example)?;
+    append(out, b"\n")?;
+    Ok(())
+}
+
 /// What is said of a code, in lines: its meaning, its usual cause, its page and a file that shows it.
-pub fn explanation(alloc: Global, code: Code) -> Result<Vec<u8>, NoMemory> {
-    let words = words_of(code);
+pub fn explanation(alloc: Global, code: Code) -> Result<Vec<u8>, NoMemory>
+    ensures { IfOk result (λ text. rows.Explains code text.items) }
+{
     let mut out = Vec::new(alloc);
-    append(&mut out, text_of(code))?;
-    append(&mut out, b": ")?;
-    append(&mut out, words.meaning.as_bytes())?;
-    append(&mut out, b"\n  ")?;
-    append(&mut out, words.cause.as_bytes())?;
-    append(&mut out, b"\n  described in ")?;
-    append(&mut out, page_of(code).as_bytes())?;
-    append(&mut out, b"\n  shown by ")?;
-    append(&mut out, words.example.as_bytes())?;
-    append(&mut out, b"\n")?;
+    append_explained(&mut out, code, words_of(code))?;
     Ok(out)
 }
 
