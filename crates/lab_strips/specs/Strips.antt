@@ -1,5 +1,6 @@
 -- What a strip shows, and by which class a bar is drawn.
-use Rattle.std.specs.Prelude.{ℕ, ◌+◌, ◌-◌, ◌^◌, ◌==◌, ◌&&◌, Bool, false, cond, min, max, nat_le, List, [], ◌∷◌, codes, count_by, slice_get, slice_index}
+use Rattle.std.specs.Prelude.{ℕ, zero, suc, ◌+◌, ◌-◌, ◌^◌, ◌==◌, ◌&&◌, Bool, false, cond, min, max, nat_le, List, [], ◌∷◌, codes, count_by, slice_get, slice_index}
+use Rattle.std.specs.List.{list_any}
 use Rattle.std.specs.Option.{option_map_or}
 use Rattle.lab_story.specs.declared.story.Bar.{Bar}
 use Rattle.lab_story.specs.declared.story.DroppedGraft.{DroppedGraft}
@@ -42,6 +43,19 @@ level_of (kind.Level level) = level
 abbrev pub most_levels : List Bar → ℕ
 most_levels [] = 0
 most_levels (bar ∷ bars) = max (level_of bar.kind) (most_levels bars)
+
+-- a process has a bar
+abbrev pub has_bar : List Bar → (process : ℕ) → Bool
+has_bar bars process = list_any (λ (bar : Bar). bar.process == process) bars
+
+-- how many of the first so many processes have one
+abbrev pub with_bar : List Bar → (processes : ℕ) → ℕ
+with_bar bars zero = 0
+with_bar bars (suc n) = cond (has_bar bars n) 1 0 + with_bar bars n
+
+-- the number of the lane of a process, from 1; 0 where it has no bar
+abbrev pub lane_of : List Bar → (process : ℕ) → ℕ
+lane_of bars process = cond (has_bar bars process) (with_bar bars process + 1) 0
 
 -- a record was put back by a drop in one of the events from the first to the last one
 abbrev pub is_put_back : (first last : ℕ) → List DroppedGraft → PutBack → Bool

@@ -1,6 +1,6 @@
 //! Where things stand in a picture. All lengths are in units of a picture that is 1,000 wide.
 
-ghost use Rattle.std.specs.Prelude.{◌≡◌, slice_index};
+ghost use Rattle.std.specs.Prelude.{◌≡◌, ℕ, ◌<◌, slice_index};
 ghost use Rattle.lab_strips.specs.Strips as spec;
 
 use lab_story::{Bar, DroppedGraft, Kind, PutBack, Story};
@@ -184,27 +184,27 @@ pub fn count_records(strip: &Strip, story: &Story) -> u32
     u32::try_from(count).unwrap_or(u32::MAX)
 }
 
-/// The lanes of the processes that have a bar, in the order of their numbers.
-pub fn lanes_of(bars: &[Bar]) -> [u32; PROCESSES] {
-    let mut lanes = [0; PROCESSES];
-    for bar in bars {
-        if let Some(lane) = lanes.get_mut(bar.process as usize) {
-            *lane = 1;
-        }
-    }
-    number_lanes(&mut lanes);
-    lanes
+/// Whether a process has a bar.
+fn has_bar(bars: &[Bar], process: u32) -> bool
+    ensures { result ≡ spec.has_bar bars.now process }
+{
+    bars.iter().any(|bar| bar.process == process)
 }
 
-/// Numbers the lanes that are there, from 1.
-fn number_lanes(lanes: &mut [u32]) {
+/// The lanes of the processes that have a bar, in the order of their numbers.
+pub fn lanes_of(bars: &[Bar]) -> [u32; PROCESSES]
+    ensures { (process : ℕ) → process < 16
+        → slice_index result process ≡ spec.lane_of bars.now process }
+{
+    let mut lanes = [0; PROCESSES];
     let mut count: u32 = 0;
-    for lane in lanes {
-        if *lane != 0 {
-            count = count.saturating_add(1);
-            *lane = count;
+    for process in 0u32..16 {
+        if has_bar(bars, process) {
+            count += 1;
+            lanes[process as usize] = count;
         }
     }
+    lanes
 }
 
 /// The most levels of a bar.
