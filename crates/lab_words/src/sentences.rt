@@ -1,8 +1,9 @@
 //! A written line in words.
 
-ghost use Rattle.std.specs.Prelude.{◌≡◌, ◌==◌, [], is_some, slice_index_or, IfOk};
+ghost use Rattle.std.specs.Prelude.{◌≡◌, ◌==◌, [], ◌++◌, is_some, slice_index_or, IfOk, OnOk};
 ghost use Rattle.std.specs.List.{slice_split};
 ghost use Rattle.lab_forms.specs.Forms as spec;
+ghost use Rattle.lab_words.specs.Objects as objects;
 
 use kernel_model::NoMemory;
 use lab_code_words::{append, words_of};
@@ -36,39 +37,73 @@ pub fn part_at(text: &[u8], separator: u8, k: usize) -> &[u8]
     }
 }
 
+#[tactic(auto, unfolding(crate::specs::Objects::numbers_of))]
 /// The numbers of an object, as `1,0` of `Cell(1,0)`.
-fn numbers_of(object: &[u8]) -> &[u8] {
+fn numbers_of(object: &[u8]) -> &[u8]
+    ensures { result.now ≡ objects.numbers_of object.now }
+{
     part_at(part_at(object, b'(', 1), b')', 0)
 }
 
-/// Appends `name`, the second number, ` of process ` and the first one.
-fn append_owned(out: &mut Vec<u8>, name: &[u8], object: &[u8]) -> Result<(), NoMemory> {
-    let numbers = numbers_of(object);
-    append(out, name)?;
-    append(out, part_at(numbers, b',', 1))?;
-    append(out, b" of process ")?;
-    append(out, part_at(numbers, b',', 0))
+#[tactic(auto, unfolding(crate::specs::Objects::numbered))]
+/// Appends a text and the k-th number of an object.
+fn append_numbered(out: &mut Vec<u8>, text: &[u8], object: &[u8], k: usize) -> Result<(), NoMemory>
+    ensures { OnOk result (out.new.items
+        ≡ out.old.items ++ objects.numbered text.now object.now k) }
+{
+    append(out, text)?;
+    append(out, part_at(numbers_of(object), b',', k))
 }
 
+/// Appends `name`, the second number, ` of process ` and the first one.
+fn append_owned(out: &mut Vec<u8>, name: &[u8], object: &[u8]) -> Result<(), NoMemory>
+    ensures { OnOk result (out.new.items
+        ≡ out.old.items ++ objects.owned_said name.now object.now) }
+{
+    append_numbered(out, name, object, 1)?;
+    append_numbered(out, b" of process ", object, 0)
+}
+
+#[tactic(auto, unfolding(crate::specs::Objects::single_said))]
 /// Appends `name` and the number of an object.
-fn append_single(out: &mut Vec<u8>, name: &[u8], object: &[u8]) -> Result<(), NoMemory> {
+fn append_single(out: &mut Vec<u8>, name: &[u8], object: &[u8]) -> Result<(), NoMemory>
+    ensures { OnOk result (out.new.items
+        ≡ out.old.items ++ objects.single_said name.now object.now) }
+{
     append(out, name)?;
     append(out, numbers_of(object))
 }
 
 /// Appends an object in words, as `cell 0 of process 1`.
-pub fn append_object(out: &mut Vec<u8>, object: &[u8]) -> Result<(), NoMemory> {
-    match before_parenthesis(object) {
-        b"Graft" => append_owned(out, b"point ", object),
-        b"Acct" => append_single(out, b"the account of process ", object),
-        b"Cell" => append_owned(out, b"cell ", object),
-        b"Open" => append_owned(out, b"descriptor ", object),
-        b"Queue" => append(out, b"the queue"),
-        b"Cache" => append(out, b"the cache"),
-        b"Lock" => append_single(out, b"user lock ", object),
-        b"Pol" => append_single(out, b"the policy of kind ", object),
-        other => append(out, other),
+pub fn append_object(out: &mut Vec<u8>, object: &[u8]) -> Result<(), NoMemory>
+    ensures { OnOk result (out.new.items ≡ out.old.items ++ objects.object_said object.now) }
+{
+    let kind = before_parenthesis(object);
+    if kind == b"Graft".as_slice() {
+        return append_owned(out, b"point ", object);
     }
+    if kind == b"Acct".as_slice() {
+        return append_single(out, b"the account of process ", object);
+    }
+    if kind == b"Cell".as_slice() {
+        return append_owned(out, b"cell ", object);
+    }
+    if kind == b"Open".as_slice() {
+        return append_owned(out, b"descriptor ", object);
+    }
+    if kind == b"Queue".as_slice() {
+        return append(out, b"the queue");
+    }
+    if kind == b"Cache".as_slice() {
+        return append(out, b"the cache");
+    }
+    if kind == b"Lock".as_slice() {
+        return append_single(out, b"user lock ", object);
+    }
+    if kind == b"Pol".as_slice() {
+        return append_single(out, b"the policy of kind ", object);
+    }
+    append(out, kind)
 }
 
 /// Appends a text and the k-th word of a line.
