@@ -2,3 +2,4 @@ pub mod Outside
 pub mod Places
 pub mod Seats
 pub mod Seen
+pub mod Told

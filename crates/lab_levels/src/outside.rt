@@ -132,7 +132,7 @@ fn append_outside(out: &mut Vec<u8>) -> Result<(), NoMemory>
 
 /// Appends a text, and a number behind it.
 #[tactic(auto, unfolding(crate::specs::Outside::numbered))]
-fn append_numbered(out: &mut Vec<u8>, text: &[u8], n: u32) -> Result<(), NoMemory>
+pub(crate) fn append_numbered(out: &mut Vec<u8>, text: &[u8], n: u32) -> Result<(), NoMemory>
     ensures { OnOk result (out.new.items ≡ out.old.items ++ spec.numbered text.now n) }
 {
     append_with(out, text, n)
