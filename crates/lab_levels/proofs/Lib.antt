@@ -1,2 +1,3 @@
 mod Fitting
+mod Origins
 pub mod Ranges

@@ -3,3 +3,4 @@ pub mod Places
 pub mod Seats
 pub mod Seen
 pub mod Told
+pub mod Written

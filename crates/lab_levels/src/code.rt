@@ -1,14 +1,18 @@
 //! Which instruction stands where, and which line of the lab file wrote it.
 
-ghost use Rattle.std.specs.Prelude.{◌≡◌, true};
+ghost use Rattle.std.specs.Prelude.{◌≡◌, ◌++◌, [], true, cond, nat_lt, length, codes, slice_get, OnOk, IfOk};
+ghost use Rattle.std.specs.List.{list_all};
+ghost use Rattle.std.specs.Option.{option_map_or};
 ghost use Rattle.kernel_model.specs.Instructions.{fits};
+ghost use Rattle.lab_levels.specs.Written as written;
 
+use crate::outside::append_numbered;
 use gm_asm::disassemble;
 use gm_isa::{Instr, access_mask};
 use graft_loader::Loaded;
 use kernel_model::NoMemory;
 use lab_text::{Graft, Lowered, Notation, RawImage};
-use lab_weave::{append, append_with, count_of};
+use lab_weave::{append, count_of};
 use std::alloc::Global;
 use text_words::Parts;
 
@@ -23,7 +27,9 @@ pub struct Origin {
 
 /// The number of the instruction as it was written, of which an instruction of boxed code is a
 /// part: each access became three.
-fn written_place(code: &[Instr], boxed: usize) -> usize {
+fn written_place(code: &[Instr], boxed: usize) -> usize
+    ensures { result ≡ written.written_place code.now boxed }
+{
     let mut behind: usize = 0;
     for (i, instr) in code.iter().enumerate() {
         let width = if access_mask(instr.op).is_some() {
@@ -40,13 +46,28 @@ fn written_place(code: &[Instr], boxed: usize) -> usize {
 }
 
 /// Whether a line of assembler text is an instruction.
-fn is_instruction(line: &[u8]) -> bool {
+fn is_instruction(line: &[u8]) -> bool
+    ensures { result ≡ written.is_instruction line.now }
+{
     !line.is_empty() && line[0] != b'#' && line[0] != b'.' && line[line.len() - 1] != b':'
+}
+
+#[tactic(auto, unfolding(crate::specs::Written::numbered_line))]
+/// Appends a line behind its number.
+fn append_line(out: &mut Vec<u8>, number: usize, line: &[u8]) -> Result<(), NoMemory>
+    ensures { OnOk result (out.new.items ≡ out.old.items ++ written.numbered_line number line.now) }
+{
+    append_numbered(out, b"line ", count_of(number))?;
+    append(out, b": ")?;
+    append(out, line)
 }
 
 /// Appends the line of the file with the k-th instruction of a graft, and that instruction as it
 /// was written.
-fn append_written(out: &mut Vec<u8>, graft: &Graft, k: usize) -> Result<(), NoMemory> {
+fn append_written(out: &mut Vec<u8>, graft: &Graft, k: usize) -> Result<(), NoMemory>
+    ensures { OnOk result (out.new.items
+        ≡ out.old.items ++ written.written_said graft.now.lines graft.now.text k) }
+{
     let mut lines = Parts::new(graft.text(), b'\n');
     let mut count: usize = 0;
     for number in graft.lines() {
@@ -55,19 +76,20 @@ fn append_written(out: &mut Vec<u8>, graft: &Graft, k: usize) -> Result<(), NoMe
         };
         if is_instruction(line) {
             if count == k {
-                append_with(out, b"line ", count_of(*number))?;
-                append(out, b": ")?;
-                return append(out, line);
+                append_line(out, *number, line)?;
+                return Ok(());
             }
-            count = count.saturating_add(1);
+            count += 1;
         }
     }
     Ok(())
 }
 
+#[tactic(auto, unfolding(crate::specs::Written::text_said))]
 /// Appends the text of an instruction.
 fn append_text(alloc: Global, out: &mut Vec<u8>, instr: Instr) -> Result<(), NoMemory>
     requires { fits instr ≡ true }
+    ensures { OnOk result (out.new.items ≡ out.old.items ++ written.text_said instr) }
 {
     let Ok(code) = Vec::from_slice(alloc, &[instr]) else {
         return Err(NoMemory);
@@ -82,7 +104,9 @@ fn append_text(alloc: Global, out: &mut Vec<u8>, instr: Instr) -> Result<(), NoM
 }
 
 /// The number of an instruction as it was written.
-fn written_of(code: &[Instr], origin: Origin, place: usize) -> usize {
+fn written_of(code: &[Instr], origin: Origin, place: usize) -> usize
+    ensures { result ≡ written.place_of code.now origin.raw place }
+{
     if origin.raw {
         place
     } else {
@@ -97,7 +121,12 @@ fn append_origin(
     lowered: &Lowered,
     origin: Origin,
     place: usize,
-) -> Result<bool, NoMemory> {
+) -> Result<bool, NoMemory>
+    ensures said { OnOk result (out.new.items ≡ out.old.items ++ written.origin_said
+        (written.source_of lowered.now.images.items lowered.now.lab.grafts (Some origin)) place) }
+    ensures is_more { IfOk result (λ more. more ≡ written.is_more
+        (written.source_of lowered.now.images.items lowered.now.lab.grafts (Some origin)) place) }
+{
     let (Some(image), Some(graft)) = (
         lowered.images.as_slice().get(origin.graft),
         lowered.lab.grafts().get(origin.graft),
@@ -116,7 +145,54 @@ fn append_origin(
     }
 }
 
+/// Appends where an instruction was written, if its origin is known. Whether more is to be told.
+fn append_source(
+    out: &mut Vec<u8>,
+    lowered: &Lowered,
+    origin: Option<Origin>,
+    place: usize,
+) -> Result<bool, NoMemory>
+    ensures said { OnOk result (out.new.items ≡ out.old.items ++ written.origin_said
+        (written.source_of lowered.now.images.items lowered.now.lab.grafts origin) place) }
+    ensures is_more { IfOk result (λ more. more ≡ written.is_more
+        (written.source_of lowered.now.images.items lowered.now.lab.grafts origin) place) }
+{
+    match origin {
+        Some(origin) => append_origin(out, lowered, origin, place),
+        None => Ok(true),
+    }
+}
+
+/// Appends the words between an instruction as it was written and as it runs, if something stands
+/// behind this place.
+fn append_as(out: &mut Vec<u8>, from: usize) -> Result<(), NoMemory>
+    ensures { OnOk result (out.new.items
+        ≡ out.old.items ++ cond (nat_lt from (length out.old.items)) (codes "  as ") []) }
+{
+    if out.len() > from {
+        return append(out, b"  as ");
+    }
+    Ok(())
+}
+
 #[tactic(auto, using(crate::proofs::Fitting::get_passes))]
+/// Appends the text of the instruction at a place.
+fn append_text_at(
+    alloc: Global,
+    out: &mut Vec<u8>,
+    code: &[Instr],
+    place: usize,
+) -> Result<(), NoMemory>
+    requires { list_all fits code.now ≡ true }
+    ensures { OnOk result (out.new.items
+        ≡ out.old.items ++ option_map_or written.text_said (slice_get code.now place) []) }
+{
+    match code.get(place) {
+        Some(instr) => append_text(alloc, out, *instr),
+        None => Ok(()),
+    }
+}
+
 /// Appends an instruction of an image: where it was written, if that is known, and else its text;
 /// both for a part of an access.
 pub fn append_instruction(
@@ -126,20 +202,17 @@ pub fn append_instruction(
     origin: Option<Origin>,
     image: &Loaded,
     place: usize,
-) -> Result<(), NoMemory> {
+) -> Result<(), NoMemory>
+    ensures { OnOk result (out.new.items ≡ out.old.items ++ written.instruction_said
+        (written.source_of lowered.now.images.items lowered.now.lab.grafts origin)
+        image.now.code place) }
+{
     let from = out.len();
-    let more = match origin {
-        Some(origin) => append_origin(out, lowered, origin, place)?,
-        None => true,
-    };
+    let more = append_source(out, lowered, origin, place)?;
     if !more {
         return Ok(());
     }
-    if out.len() > from {
-        append(out, b"  as ")?;
-    }
-    match image.code().code().get(place) {
-        Some(instr) => append_text(alloc, out, *instr),
-        None => Ok(()),
-    }
+    append_as(out, from)?;
+    append_text_at(alloc, out, image.code().code(), place)?;
+    Ok(())
 }
