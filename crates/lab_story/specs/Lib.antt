@@ -1,4 +1,5 @@
 pub mod Bars
 pub mod Numbers
+pub mod Records
 pub mod Slow
 pub mod Story

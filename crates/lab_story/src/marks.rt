@@ -1,7 +1,9 @@
 //! What a written line adds to the story.
 
-ghost use Rattle.std.specs.Prelude.{◌≡◌};
+ghost use Rattle.std.specs.Prelude.{◌≡◌, ◌==◌, ◌<◌, ◌-◌, ◌++◌, ◌∷◌, [], length, map, position, IfSome, OnOk};
+ghost use Rattle.lab_story.specs.Bars as bars_of;
 ghost use Rattle.lab_story.specs.Numbers as spec;
+ghost use Rattle.lab_story.specs.Records as undo;
 
 use crate::story::{
     Arrow, Bar, Column, DroppedGraft, End, Kind, NO_TEXT, PutBack, Record, Story, end_bars, keep,
@@ -25,7 +27,9 @@ pub fn number_at(line: &[u8], k: usize) -> u32
 }
 
 /// The process of a call.
-fn process_of(bars: &[Bar], call: u32) -> Option<u32> {
+fn process_of(bars: &[Bar], call: u32) -> Option<u32>
+    ensures { result ≡ bars_of.process_of call bars.now }
+{
     for bar in bars {
         if bar.call == call && bar.kind == Kind::Call {
             return Some(bar.process);
@@ -35,7 +39,9 @@ fn process_of(bars: &[Bar], call: u32) -> Option<u32> {
 }
 
 /// What stands in a line from its k-th word on.
-fn from_word(line: &[u8], k: usize) -> &[u8] {
+fn from_word(line: &[u8], k: usize) -> &[u8]
+    ensures { result.now ≡ spec.from_word line.now k }
+{
     let mut rest = line;
     for _ in 0..k {
         rest = behind_space(rest);
@@ -43,9 +49,19 @@ fn from_word(line: &[u8], k: usize) -> &[u8] {
     rest
 }
 
+/// The place of the first space, if there is one.
+fn first_space(text: &[u8]) -> Option<usize>
+    ensures place { result ≡ position (λ b. b == 32) text.now }
+    ensures within { IfSome result (λ at. at < length text.now) }
+{
+    text.iter().position(|b| *b == b' ')
+}
+
 /// What stands behind the first space.
-fn behind_space(text: &[u8]) -> &[u8] {
-    match text.iter().position(|b| *b == b' ') {
+fn behind_space(text: &[u8]) -> &[u8]
+    ensures { result.now ≡ spec.behind_space text.now }
+{
+    match first_space(text) {
         Some(at) => &text[at + 1..],
         None => [].as_slice(),
     }
@@ -58,12 +74,26 @@ fn note_column<'a>(columns: &mut [Column<'a>], text: &'a [u8]) {
     }
 }
 
-/// Says how a call ended, at the bar of the call itself.
-fn note_result(bars: &mut [Bar], call: u32, said: usize) {
-    for bar in bars {
-        if bar.call == call && bar.kind == Kind::Call {
-            bar.result = said;
+/// A bar with what is said of how it ended, where it is the one of the call itself.
+fn noted(bar: Bar, call: u32, said: usize) -> Bar
+    ensures { result ≡ bars_of.noted call said bar }
+{
+    if bar.call == call && bar.kind == Kind::Call {
+        Bar {
+            result: said,
+            ..bar
         }
+    } else {
+        bar
+    }
+}
+
+/// Says how a call ended, at the bar of the call itself.
+fn note_result(bars: &mut [Bar], call: u32, said: usize)
+    ensures { bars.new ≡ map (bars_of.noted call said) bars.old }
+{
+    for bar in bars.iter_mut() {
+        *bar = noted(*bar, call, said);
     }
 }
 
@@ -87,7 +117,10 @@ fn end_call<'a>(
 }
 
 /// The level of an open bar of a graft; the innermost open level where no bar names the graft.
-fn level_of_graft(bars: &[Bar], texts: &[&[u8]], call: u32, graft: &[u8]) -> u32 {
+fn level_of_graft(bars: &[Bar], texts: &[&[u8]], call: u32, graft: &[u8]) -> u32
+    ensures { result ≡ bars_of.level_of_graft call (map (λ t. t.now) texts.now) graft.now
+        bars.now }
+{
     let mut innermost = 1;
     for bar in bars {
         if bar.call == call && bar.end == End::Open {
@@ -103,7 +136,9 @@ fn level_of_graft(bars: &[Bar], texts: &[&[u8]], call: u32, graft: &[u8]) -> u32
 }
 
 /// The graft of a line `m drop Q PT ..` or `m graft Q PT ..`: `Q PT`.
-fn graft_in(line: &[u8]) -> &[u8] {
+fn graft_in(line: &[u8]) -> &[u8]
+    ensures { result.now ≡ spec.two_words (spec.from_word line.now 2) }
+{
     let rest = from_word(line, 2);
     let first = word_at(rest, 0).len();
     let second = word_at(rest, 1).len();
@@ -141,16 +176,36 @@ fn drop_graft<'a>(
     put_back(story, process, level)
 }
 
-/// The records of the last raw rows that the last drop puts back.
-fn put_back(story: &mut Story, process: u32, level: u32) -> Result<(), NoMemory> {
-    let drop = story.drops.len().saturating_sub(1);
-    for record in &story.records {
+/// The records of a level of a process, and of those above, that the drop at this place puts back.
+fn put_records<'a>(
+    out: &mut Vec<PutBack<'a>>,
+    records: &[Record<'a>],
+    place: usize,
+    process: u32,
+    level: u32,
+) -> Result<(), NoMemory>
+    ensures { OnOk result (map undo.undone out.new.items ≡ map undo.undone out.old.items
+        ++ undo.put_back place process level records.now) }
+{
+    for record in records {
         if record.process == process && record.level >= level {
             let text = record.text;
-            put(&mut story.put_back, PutBack { drop, text })?;
+            put(out, PutBack { drop: place, text })?;
         }
     }
     Ok(())
+}
+
+/// The records of the last raw rows that the last drop puts back.
+fn put_back(story: &mut Story, process: u32, level: u32) -> Result<(), NoMemory>
+    ensures others { story.new ≡ record story.old { put_back = story.new.put_back } }
+    ensures undone { OnOk result (map undo.undone story.new.put_back.items
+        ≡ map undo.undone story.old.put_back.items
+        ++ undo.put_back (length story.old.drops.items - 1) process level
+        story.old.records.items) }
+{
+    let place = story.drops.len().saturating_sub(1);
+    put_records(&mut story.put_back, &story.records, place, process, level)
 }
 
 /// A call waits: a bar and an arrow.
@@ -186,7 +241,9 @@ fn begin_wait<'a>(story: &mut Story<'a>, event: u32, line: &'a [u8]) -> Result<(
 }
 
 /// Whether a level of a call is open.
-fn is_open(bars: &[Bar], call: u32, level: u32) -> bool {
+fn is_open(bars: &[Bar], call: u32, level: u32) -> bool
+    ensures { result ≡ bars_of.has_open call level bars.now }
+{
     bars.iter().any(|bar| {
         bar.call == call && bar.end == End::Open && bar.kind == Kind::Level(level)
     })
@@ -194,7 +251,10 @@ fn is_open(bars: &[Bar], call: u32, level: u32) -> bool {
 
 /// Whether an open bar of a level names another graft than this one: a call asks several, one after
 /// the other.
-fn runs_other(bars: &[Bar], texts: &[&[u8]], call: u32, level: u32, graft: &[u8]) -> bool {
+fn runs_other(bars: &[Bar], texts: &[&[u8]], call: u32, level: u32, graft: &[u8]) -> bool
+    ensures { result ≡ bars_of.runs_other call level (map (λ t. t.now) texts.now) graft.now
+        bars.now }
+{
     for bar in bars {
         if bar.call == call && bar.end == End::Open && bar.kind == Kind::Level(level) {
             let named = text_of_number(texts, bar.text);
@@ -266,7 +326,11 @@ fn read_raw<'a>(story: &mut Story<'a>, line: &'a [u8]) -> Result<(), NoMemory> {
 }
 
 /// A record `P D I` is remembered.
-fn read_record<'a>(story: &mut Story<'a>, text: &'a [u8]) -> Result<(), NoMemory> {
+fn read_record<'a>(story: &mut Story<'a>, text: &'a [u8]) -> Result<(), NoMemory>
+    ensures others { story.new ≡ record story.old { records = story.new.records } }
+    ensures kept { OnOk result (map undo.kept story.new.records.items
+        ≡ map undo.kept story.old.records.items ++ undo.written text.now ∷ []) }
+{
     put(
         &mut story.records,
         Record {
