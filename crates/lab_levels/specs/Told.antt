@@ -30,7 +30,8 @@ put_back what value = what ++ numbered (codes " to ") value
 
 -- a parameter of a policy
 unfoldable pub parameter_said : (kind k : ℕ) → List ℕ
-parameter_said kind k = numbered (codes "parameter ") k ++ numbered (codes " of the policy of kind ") kind
+parameter_said kind k =
+    numbered (codes "parameter ") k ++ numbered (codes " of the policy of kind ") kind
 
 -- what a record puts back
 unfoldable pub inverse_said : Inverse → List ℕ
@@ -45,7 +46,8 @@ inverse_said (inverse.Segment q pt) = owned (codes "the segment kept at point ")
 
 -- a level of a process; the outermost one is 1
 unfoldable pub level_said : (process depth : ℕ) → List ℕ
-level_said process depth = numbered (codes "process ") process ++ numbered (codes " level ") (depth + 1)
+level_said process depth =
+    numbered (codes "process ") process ++ numbered (codes " level ") (depth + 1)
 
 -- a wait of a process
 unfoldable pub wait_said : (process : ℕ) → WaitRow → List ℕ

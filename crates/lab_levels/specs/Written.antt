@@ -49,8 +49,8 @@ is_access i = is_some (access_width i.op)
 abbrev pub boxed_count : Instr → ℕ
 boxed_count i = cond (is_access i) 3 1
 
--- the number of the instruction of which an instruction of boxed code is a part; that of all of them
--- where it is behind all
+-- the number of the instruction of which an instruction of boxed code is a part; that of all of
+-- them where it is behind all
 abbrev pub written_place : List Instr → (boxed : ℕ) → ℕ
 written_place [] boxed = 0
 written_place (i ∷ code) boxed =
@@ -100,12 +100,14 @@ origin_said (Some s) place = written_said s.graft.lines s.graft.text (place_of s
 abbrev pub is_more : Option Source → (place : ℕ) → Bool
 is_more None place = true
 is_more (Some s) place =
-    option_map_or (λ i. not s.raw && is_access i) (slice_get s.code (place_of s.code s.raw place)) true
+    option_map_or (λ i. not s.raw && is_access i)
+    (slice_get s.code (place_of s.code s.raw place)) true
 
 -- the text of the instruction at a place, behind what was said already
 abbrev pub text_behind : (said : List ℕ) → List Instr → (place : ℕ) → List ℕ
 text_behind said code place =
-    cond (nat_lt 0 (length said)) (codes "  as ") [] ++ option_map_or text_said (slice_get code place) []
+    cond (nat_lt 0 (length said)) (codes "  as ") []
+    ++ option_map_or text_said (slice_get code place) []
 
 -- all of it
 abbrev pub instruction_said : Option Source → List Instr → (place : ℕ) → List ℕ
