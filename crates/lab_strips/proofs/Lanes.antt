@@ -1,5 +1,5 @@
 -- Lanes numbered, process by process.
-use Rattle.std.proofs.Common.{◌≡◌, ℕ, ◌+◌, ◌<◌, ◌≤◌, Bool, true, false, List, get_or, set, length, arith}
+use Rattle.std.proofs.Common.{◌≡◌, ℕ, ◌+◌, ◌<◌, ◌≤◌, true, false, List, get_or, set, length, arith}
 use Rattle.std.proofs.lemmas.Grind.{common_steps}
 use Rattle.lab_story.specs.declared.story.Bar.{Bar}
 use Rattle.lab_strips.specs.Strips.{has_bar, lane_of, with_bar}
@@ -13,7 +13,8 @@ pub record AreNumbered (bars : List Bar) (lanes : List ℕ) (process count : ℕ
   pub beyond : (k : ℕ) → process ≤ k → get_or lanes k 0 ≡ 0
 
 -- a process without a bar more
-pub without_more : (bars : List Bar) (lanes : List ℕ) (p count : ℕ) → has_bar bars p ≡ false → AreNumbered bars lanes p count
+pub without_more : (bars : List Bar) (lanes : List ℕ) (p count : ℕ) → has_bar bars p ≡ false
+    → AreNumbered bars lanes p count
     → AreNumbered bars lanes (p + 1) count
 without_more bars lanes p count has s = record {
   size = s.size;
@@ -24,7 +25,8 @@ without_more bars lanes p count has s = record {
 }
 
 -- a process with one more
-pub with_more : (bars : List Bar) (lanes : List ℕ) (p count : ℕ) → p < 16 → has_bar bars p ≡ true → AreNumbered bars lanes p count
+pub with_more : (bars : List Bar) (lanes : List ℕ) (p count : ℕ) → p < 16 → has_bar bars p ≡ true
+    → AreNumbered bars lanes p count
     → AreNumbered bars (set lanes p (count + 1)) (p + 1) (count + 1)
 with_more bars lanes p count inside has s = record {
   size = grind (arith, common_steps, s.size);
