@@ -166,7 +166,7 @@ fn append_source(
 /// Appends the words between an instruction as it was written and as it runs, if something stands
 /// behind this place.
 fn append_as(out: &mut Vec<u8>, from: usize) -> Result<(), NoMemory>
-    ensures { OnOk result (out.new.items
+    ensures text { OnOk result (out.new.items
         ≡ out.old.items ++ cond (nat_lt from (length out.old.items)) (codes "  as ") []) }
 {
     if out.len() > from {
@@ -184,7 +184,7 @@ fn append_text_at(
     place: usize,
 ) -> Result<(), NoMemory>
     requires { list_all fits code.now ≡ true }
-    ensures { OnOk result (out.new.items
+    ensures text { OnOk result (out.new.items
         ≡ out.old.items ++ option_map_or written.text_said (slice_get code.now place) []) }
 {
     match code.get(place) {

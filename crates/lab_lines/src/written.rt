@@ -38,7 +38,7 @@ fn put<'a>(out: &mut Vec<Wrote<'a>>, owner: usize, line: &'a [u8]) -> Result<(),
 
 /// Puts the lines of a piece behind others.
 fn put_lines<'a>(out: &mut Vec<Wrote<'a>>, owner: usize, piece: &'a [u8]) -> Result<(), NoMemory>
-    ensures { OnOk result (out.new.items
+    ensures lines { OnOk result (out.new.items
         ≡ out.old.items ++ map (spec.line_by owner) (lines_of piece.now)) }
 {
     let mut lines = Parts::new(piece, b'\n');

@@ -87,7 +87,7 @@ fn append_said(out: &mut Vec<u8>, entry: &[u8]) -> Result<(), NoMemory>
 
 /// Appends what a record puts back, as `cell 0 of process 1 is 3 again`.
 pub fn append_record(out: &mut Vec<u8>, entry: &[u8]) -> Result<(), NoMemory>
-    ensures { OnOk result (out.new.items
+    ensures words { OnOk result (out.new.items
         ≡ out.old.items ++ spec.said entry.now ++ codes " again") }
 {
     append_said(out, entry)?;

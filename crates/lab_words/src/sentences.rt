@@ -48,7 +48,7 @@ fn numbers_of(object: &[u8]) -> &[u8]
 #[tactic(auto, unfolding(crate::specs::Objects::numbered))]
 /// Appends a text and the k-th number of an object.
 fn append_numbered(out: &mut Vec<u8>, text: &[u8], object: &[u8], k: usize) -> Result<(), NoMemory>
-    ensures { OnOk result (out.new.items
+    ensures words { OnOk result (out.new.items
         ≡ out.old.items ++ objects.numbered text.now object.now k) }
 {
     append(out, text)?;
@@ -57,7 +57,7 @@ fn append_numbered(out: &mut Vec<u8>, text: &[u8], object: &[u8], k: usize) -> R
 
 /// Appends `name`, the second number, ` of process ` and the first one.
 fn append_owned(out: &mut Vec<u8>, name: &[u8], object: &[u8]) -> Result<(), NoMemory>
-    ensures { OnOk result (out.new.items
+    ensures words { OnOk result (out.new.items
         ≡ out.old.items ++ objects.owned_said name.now object.now) }
 {
     append_numbered(out, name, object, 1)?;
@@ -67,7 +67,7 @@ fn append_owned(out: &mut Vec<u8>, name: &[u8], object: &[u8]) -> Result<(), NoM
 #[tactic(auto, unfolding(crate::specs::Objects::single_said))]
 /// Appends `name` and the number of an object.
 fn append_single(out: &mut Vec<u8>, name: &[u8], object: &[u8]) -> Result<(), NoMemory>
-    ensures { OnOk result (out.new.items
+    ensures words { OnOk result (out.new.items
         ≡ out.old.items ++ objects.single_said name.now object.now) }
 {
     append(out, name)?;
