@@ -52,7 +52,8 @@ impl DiskLog {
         self.failed.as_slice()
     }
 
-    /// Reads block b.
+    /// Reads block b. It is always inlined: no answer is moved then.
+    #[inline(always)]
     pub fn read<D: Disk>(&mut self, disk: &mut D, b: u32, to: &mut [u8; 512]) -> Result<(), Failed>
         requires room { length self.old < CALLS }
         requires block { b < (D.seen disk.old).size }

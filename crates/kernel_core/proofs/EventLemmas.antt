@@ -31,6 +31,7 @@ use Rattle.running_kernel.specs.declared.order.Waiting.{Waiting}
 use Rattle.running_kernel.specs.declared.running.Running.{Running}
 use Rattle.kernel_steps.specs.Composing.{did_as}
 use Rattle.kernel_steps.specs.Kept.{kept_whole}
+use Rattle.running_kernel.specs.Idle.{joined_in}
 use Rattle.running_kernel.specs.Orders.{has_number, numbers_of, order_of}
 use Rattle.kernel_steps.specs.Begins.{Begun, CallBegins}
 use Rattle.kernel_core.specs.Starts.{Started, Starts}
@@ -182,7 +183,7 @@ went_refused_at m f x y note kept kept_new d running abstraction is same adds no
 
 -- how a call begins, by whether it does
 pub starts_by : {C B M A : Type 0} {P : _} (m : Meaning) (p number : ℕ) (call : SysCall) (x y : Running C B M P) (result : Result A Refusal) → CallBegins m p number call x y result →
-    (Begun m p number call x y → Started m p number call x y) → Starts m p number call x y result
+    (Begun m p number call x (joined_in p y) → Started m p number call x (joined_in p y)) → Starts m p number call x y result
 starts_by m p number call x y (Ok t) h begun = begun h
 starts_by m p number call x y (Err why) h begun = h
 

@@ -1,5 +1,6 @@
 pub mod WentLemmas
 pub mod SettleLemmas
+mod AloneLemmas
 pub mod LastLemmas
 pub mod RestLemmas
 pub mod StepLemmas

@@ -10,11 +10,12 @@ use Rattle.graft_loader.specs.Slots.{table_of}
 use Rattle.placed_laws.specs.Keeping.{first_placed}
 use Rattle.placed_laws.specs.PlacedSteps.{placed_joins, with_placed_call}
 use Rattle.running_kernel.specs.declared.running.Running.{Running}
+use Rattle.running_kernel.specs.Idle.{joined_in}
 use Rattle.kernel_steps.specs.Begins.{NotBegun}
 use Rattle.kernel_steps.specs.Moments.{moment}
 use Rattle.kernel_steps.specs.Runs.{RefinesAndKeeps}
 
--- A call of p was granted, and joined the order.
+-- A call of p was granted, and joined the order, with which the kernel is y.
 pub record Started {C B M : Type 0} {P : _} (m : Meaning) (p number : ℕ) (call : SysCall)
     (x y : Running C B M P) : Type 0 where
   pub first : Stage
@@ -23,8 +24,8 @@ pub record Started {C B M : Type 0} {P : _} (m : Meaning) (p number : ℕ) (call
       (λ r. placed_joins p (with_placed_call p (Some (first_placed number first)) r))
       (moment x kept d) (moment y kept d)
 
--- a call of p starts, or is refused at once
+-- a call of p starts, and is still to join the order, or is refused at once
 abbrev pub Starts : {C B M A : Type 0} {P : _} → Meaning → (p number : ℕ) → SysCall →
     (x y : Running C B M P) → Result A Refusal → Type 0
-Starts m p number call x y (Ok _) = Started m p number call x y
+Starts m p number call x y (Ok _) = Started m p number call x (joined_in p y)
 Starts m p number call x y (Err why) = NotBegun m p call why x y

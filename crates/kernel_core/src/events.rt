@@ -10,12 +10,13 @@ ghost use Rattle.kernel_steps.specs.Moments.{moment};
 ghost use Rattle.running_kernel.specs.Sound.{IsSoundFor};
 ghost use Rattle.kernel_steps.specs.Runs.{CanRun, IsSoundOn, RefinesAndKeeps};
 ghost use Rattle.kernel_core.specs.EventParts.{RunsFromRest};
+ghost use Rattle.running_kernel.specs.Idle.{joined_in};
 ghost use Rattle.running_kernel.specs.Views.{placed_of};
 ghost use Rattle.kernel_core.specs.EventRefines.{EventRefines, IsKernel};
 ghost use Rattle.kernel_core.specs.Starts.{Starts};
 
 use crate::last::say_last;
-use crate::settle::settle_all;
+use crate::settle::settle_begun;
 use crate::stepping::step_event;
 use crate::ticks::tick_event;
 use arrayvec::ArrayVec;
@@ -29,8 +30,8 @@ use vino_base::Disk;
 /// The most instructions of one event.
 const MOST_STEPS: u32 = 65_536;
 
-/// A call of process p begins, which lives and has none, and joins the order; or it is refused at
-/// once, and nothing changes.
+/// A call of process p begins, which lives and has none, and is still to join the order; or it is
+/// refused at once, and nothing changes.
 fn begin<C: Calls, B: Policy>(
     running: &mut Running<C, B>,
     p: u8,
@@ -46,20 +47,21 @@ fn begin<C: Calls, B: Policy>(
     kernel_steps::begin(running, p, request)
 }
 
-/// A call of process p that has begun, as far as it comes at its event.
+/// A call of process p that has begun and is still to join the order, as far as it comes at its
+/// event.
 fn run<C: Calls, B: Policy, D: Disk>(
     running: &mut Running<C, B>,
     p: u8,
     disk: &mut D,
     trace: &mut Trace,
 )
-    requires { CanRun C.Meaning.meaning running.old (D.seen disk.old) p }
+    requires { CanRun C.Meaning.meaning (joined_in p running.old) (D.seen disk.old) p }
     ensures { RefinesAndKeeps C.Meaning.meaning
         (λ r. placed_last C.Meaning.meaning p (placed_settled C.Meaning.meaning r))
-        (moment running.old trace.old.notes (D.seen disk.old))
+        (moment (joined_in p running.old) trace.old.notes (D.seen disk.old))
         (moment running.new trace.new.notes (D.seen disk.new)) }
 {
-    settle_all(running, disk, trace);
+    settle_begun(running, p, disk, trace);
     say_last(running, p, &mut trace.notes);
 }
 

@@ -8,12 +8,13 @@ ghost use Rattle.placed_laws.specs.PlacedEvents.{placed_rested, placed_settle, p
 ghost use Rattle.kernel_steps.specs.Moments.{moment};
 ghost use Rattle.running_kernel.specs.Sound.{IsSound};
 ghost use Rattle.running_kernel.specs.Views.{placed_of};
-ghost use Rattle.kernel_steps.specs.Runs.{IsSoundOn, RefinesAndKeeps};
+ghost use Rattle.running_kernel.specs.Idle.{IsIdle, joined_in};
+ghost use Rattle.kernel_steps.specs.Runs.{CanRun, IsSoundOn, RefinesAndKeeps};
 
 use call_pieces::Calls;
 use graft_points::Policy;
-use kernel_steps::{Trace, step};
-use running_kernel::Running;
+use kernel_steps::{Trace, piece_alone, step};
+use running_kernel::{Running, Waiting};
 use vino_base::Disk;
 
 /// The most steps that can be taken (`kernel_laws::rest`).
@@ -46,7 +47,9 @@ fn next_or_rest<C: Calls, B: Policy>(running: &mut Running<C, B>) -> Option<u8>
     }
 }
 
-/// At most so many steps, each of the first call in the order that nothing blocks, and then rest.
+/// At most so many steps, each of the first call in the order that nothing blocks, and then rest. It
+/// isn't inlined: a call that begins mostly comes to its end without it.
+#[inline(never)]
 fn settle<C: Calls, B: Policy, D: Disk>(
     running: &mut Running<C, B>,
     turns: u16,
@@ -66,6 +69,68 @@ fn settle<C: Calls, B: Policy, D: Disk>(
     };
     step(running, p, disk, trace);
     settle(running, turns - 1, disk, trace);
+}
+
+/// The same, once process p's call, which has begun, has joined the order.
+#[inline(never)]
+fn settle_joined<C: Calls, B: Policy, D: Disk>(
+    running: &mut Running<C, B>,
+    p: u8,
+    turns: u16,
+    disk: &mut D,
+    trace: &mut Trace,
+)
+    requires { CanRun C.Meaning.meaning (joined_in p running.old) (D.seen disk.old) p }
+    ensures { RefinesAndKeeps C.Meaning.meaning (placed_settle C.Meaning.meaning turns)
+        (moment (joined_in p running.old) trace.old.notes (D.seen disk.old))
+        (moment running.new trace.new.notes (D.seen disk.new)) }
+{
+    running.order.push(Waiting::joined(p));
+    settle(running, turns, disk, trace);
+}
+
+/// The same, where no other call waits and nothing is held: piece by piece, as long as nothing can
+/// hinder the call and no graft stands. A call that ends so never joins the order.
+fn settle_alone<C: Calls, B: Policy, D: Disk>(
+    running: &mut Running<C, B>,
+    p: u8,
+    turns: u16,
+    disk: &mut D,
+    trace: &mut Trace,
+)
+    requires at { CanRun C.Meaning.meaning (joined_in p running.old) (D.seen disk.old) p }
+    requires idle { IsIdle running.old }
+    ensures { RefinesAndKeeps C.Meaning.meaning (placed_settle C.Meaning.meaning turns)
+        (moment (joined_in p running.old) trace.old.notes (D.seen disk.old))
+        (moment running.new trace.new.notes (D.seen disk.new)) }
+{
+    if turns == 0 {
+        return settle_joined(running, p, turns, disk, trace);
+    }
+    if !running.is_plain(p) {
+        return settle_joined(running, p, turns, disk, trace);
+    }
+    if piece_alone(running, p, disk, trace) {
+        settle_alone(running, p, turns - 1, disk, trace);
+    }
+}
+
+/// All steps that can be taken once process p's call, which has begun, has joined the order.
+pub(crate) fn settle_begun<C: Calls, B: Policy, D: Disk>(
+    running: &mut Running<C, B>,
+    p: u8,
+    disk: &mut D,
+    trace: &mut Trace,
+)
+    requires { CanRun C.Meaning.meaning (joined_in p running.old) (D.seen disk.old) p }
+    ensures { RefinesAndKeeps C.Meaning.meaning (placed_settled C.Meaning.meaning)
+        (moment (joined_in p running.old) trace.old.notes (D.seen disk.old))
+        (moment running.new trace.new.notes (D.seen disk.new)) }
+{
+    if running.is_idle() {
+        return settle_alone(running, p, STEPS, disk, trace);
+    }
+    settle_joined(running, p, STEPS, disk, trace);
 }
 
 /// All steps that can be taken.

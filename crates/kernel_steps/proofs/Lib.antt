@@ -9,6 +9,7 @@ pub mod FinishLemmas
 pub mod StepLemmas
 pub mod EndLemmas
 pub mod WholeLemmas
+pub mod AloneLemmas
 pub mod PartLemmas
 pub mod AskLemmas
 pub mod StillLemmas

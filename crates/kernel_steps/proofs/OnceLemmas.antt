@@ -73,3 +73,14 @@ has_left p (w ∷ ws) = grind (arith, nat_tests, has_left p ws)
 pub same_later : (ws : List Waiting) → numbers_of (map later ws) ≡ numbers_of ws
 same_later [] = refl
 same_later (w ∷ ws) = ap (λ ns. w.process ∷ ns) (same_later ws)
+
+-- of processes that stand there once there are at most sixteen, so before the last there was room
+pub room_before : (p : ℕ) (ws : List Waiting) → are_processes (ws ++ joined p ∷ []) ≡ true → are_once (numbers_of (ws ++ joined p ∷ [])) ≡ true → length ws < 16
+room_before p ws all once =
+    let es = ws ++ joined p ∷ [] in
+    let few : length (numbers_of es) ≤ 16 = length-le_from_distinct_below (numbers_of es) 16 (distinct_of (numbers_of es) once) (λ q has. below_of es q all has) in
+    omega (arith, few, many es, one_more ws)
+  where
+    one_more : (vs : List Waiting) → length (vs ++ joined p ∷ []) ≡ suc (length vs)
+    one_more [] = refl
+    one_more (v ∷ vs) = ap suc (one_more vs)

@@ -13,6 +13,7 @@ use Rattle.call_needs.specs.declared.Work.{Work}
 use Rattle.running_kernel.specs.declared.running.InFlight.{InFlight}
 use Rattle.running_kernel.specs.declared.running.Flight.{Flight}
 use Rattle.running_kernel.specs.declared.running.Running.{Running}
+use Rattle.running_kernel.specs.Idle.{joined_in}
 use Rattle.running_kernel.specs.Views.{flight_of, placed_of, IsRunning, Simulates}
 
 -- ---- in its place
@@ -54,7 +55,7 @@ FlightBegins m v images p number call old new result =
 
 -- ---- in the running kernel
 
--- A call of p was granted, and joined the order.
+-- A call of p was granted, and joined the order, with which the kernel is y.
 pub record Begun {C B M : Type 0} {P : _} (m : Meaning) (p number : ℕ) (call : SysCall)
     (x y : Running C B M P) : Type 0 where
   pub first : Stage
@@ -71,8 +72,9 @@ pub record NotBegun {C B M : Type 0} {P : _} (m : Meaning) (p : ℕ) (call : Sys
   pub placed : placed_of y ≡ placed_of x
   pub running : IsRunning y
 
--- a call of p, which is granted or refused, begins in the running kernel
+-- a call of p, which is granted or refused, begins in the running kernel; one that is granted is
+-- still to join the order
 abbrev pub CallBegins : {C B M A : Type 0} {P : _} → Meaning → (p number : ℕ) → SysCall →
     (x y : Running C B M P) → Result A Refusal → Type 0
-CallBegins m p number call x y (Ok _) = Begun m p number call x y
+CallBegins m p number call x y (Ok _) = Begun m p number call x (joined_in p y)
 CallBegins m p number call x y (Err why) = NotBegun m p call why x y

@@ -34,7 +34,9 @@ pub struct Request<'a> {
     pub bytes: &'a ArrayVec<u8, BLOCK_BYTES>,
 }
 
-/// A call of process p, which lives, begins here, unless it is refused at once.
+/// A call of process p, which lives, begins here, unless it is refused at once. It isn't inlined,
+/// so that what runs the call then keeps its registers.
+#[inline(never)]
 fn begin_in<C: Calls, B: Policy>(
     slot: &mut Slot,
     store: &Store<B>,
@@ -88,8 +90,9 @@ fn end_call(flights: &mut Vec<Flight>, p: u8)
     flights[p as usize].call.end();
 }
 
-/// A call of process p begins, which lives, has none and doesn't wait: it joins the order. Or it is
-/// refused at once, and nothing changes.
+/// A call of process p begins, which lives, has none and doesn't wait. It is still to join the
+/// order, and is said to have begun in the kernel once it has. Or it is refused at once, and nothing
+/// changes.
 pub fn begin<C: Calls, B: Policy>(
     running: &mut Running<C, B>,
     p: u8,
@@ -106,10 +109,7 @@ pub fn begin<C: Calls, B: Policy>(
     let calls = &mut running.calls;
     match begin_call::<C, B>(calls, &running.store, &running.images, p, request) {
         Err(refusal) => Err(refusal),
-        Ok(()) => {
-            running.order.push(Waiting::joined(p));
-            Ok(())
-        }
+        Ok(()) => Ok(()),
     }
 }
 

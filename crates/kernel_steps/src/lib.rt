@@ -19,6 +19,6 @@ pub use calls::{Request, begin, end, join, requeue, tick};
 pub use levels::{fall, instruct};
 pub use notes::Notes;
 pub use settled::step_in_graft;
-pub use steps::{drop_level, step};
+pub use steps::{drop_level, piece_alone, step};
 pub use stretches::stretch;
 pub use trace::Trace;

@@ -62,7 +62,9 @@ fn append(bytes: &mut Vec<u8>, more: &[u8])
     let _ = bytes.extend_from_slice(more);
 }
 
-/// One more note, and its bytes, where there is room.
+/// One more note, and its bytes, where there is room. It is always inlined: what kind of note it is
+/// is known then.
+#[inline(always)]
 fn add(list: &mut Vec<BareNote>, bytes: &mut Vec<u8>, note: BareNote, more: &[u8])
     requires fit { NotesFit list.old.items bytes.old.items (vec_capacity list.old)
         (vec_capacity bytes.old) }

@@ -11,6 +11,7 @@ ghost use Rattle.kernel_steps.specs.Steps.{answer_said, answer_of_drop, after_dr
 ghost use Rattle.kernel_steps.specs.Faults.{fault_notes};
 ghost use Rattle.kernel_steps.specs.Moments.{moment};
 ghost use Rattle.kernel_steps.specs.Runs.{CanRun, HasLevel, RefinesAndKeeps};
+ghost use Rattle.running_kernel.specs.Idle.{IsIdle, IsPlain, joined_in, joined_if};
 ghost use Rattle.running_kernel.specs.Views.{placed_of, chain_of, call_at};
 
 use crate::calls::requeue;
@@ -24,28 +25,7 @@ use running_kernel::{Running, flight, number_of};
 use vino_base::Disk;
 
 /// The piece of process p's call, which has no level, is done: with an answer to the point that it
-/// asks, or by default. It is inlined where most pieces are done.
-#[inline(always)]
-fn finish_inlined<C: Calls, B: Policy, D: Disk>(
-    running: &mut Running<C, B>,
-    p: u8,
-    answer: Option<[u32; 4]>,
-    disk: &mut D,
-    trace: &mut Trace,
-)
-    requires alone { StepsAlone running.old p }
-    requires answer { CanFinish C.Meaning.meaning running.old p answer }
-    requires disk { running.old.store.size ≡ (D.seen disk.old).size }
-    ensures { CallStepDone (λ c. finishes C.Meaning.meaning p c
-        (answer_seen running.old.store.ram p answer)) p
-        (moment running.old trace.old.notes (D.seen disk.old))
-        (moment running.new trace.new.notes (D.seen disk.new)) }
-{
-    let flight = &mut running.calls[p as usize];
-    do_piece::<C, B, D>(&mut flight.call, &mut running.store, answer, disk, trace);
-}
-
-/// The same, called where fewer are done.
+/// asks, or by default. It isn't inlined: most pieces are done by `piece_alone`.
 #[inline(never)]
 fn finish<C: Calls, B: Policy, D: Disk>(
     running: &mut Running<C, B>,
@@ -62,7 +42,8 @@ fn finish<C: Calls, B: Policy, D: Disk>(
         (moment running.old trace.old.notes (D.seen disk.old))
         (moment running.new trace.new.notes (D.seen disk.new)) }
 {
-    finish_inlined(running, p, answer, disk, trace);
+    let flight = &mut running.calls[p as usize];
+    do_piece::<C, B, D>(&mut flight.call, &mut running.store, answer, disk, trace);
 }
 
 /// Level d of process p's call was dropped, which is noted. With level 0 the default finishes the
@@ -148,8 +129,7 @@ fn graft_step<C: Calls, B: Policy, D: Disk>(
 
 /// The next piece of process p's call, which is in no graft: where it asks a point at which a graft
 /// stands, the call enters that graft; else the piece is done by default.
-#[inline(never)]
-fn asking_step<C: Calls, B: Policy, D: Disk>(
+fn piece_step<C: Calls, B: Policy, D: Disk>(
     running: &mut Running<C, B>,
     p: u8,
     disk: &mut D,
@@ -172,26 +152,6 @@ fn asking_step<C: Calls, B: Policy, D: Disk>(
         return finish(running, p, None, disk, trace);
     }
     enter(running, p, &point);
-}
-
-/// The next piece of process p's call, which is in no graft. Where no graft stands anywhere, it is
-/// done by default, and what it asks isn't looked for.
-fn piece_step<C: Calls, B: Policy, D: Disk>(
-    running: &mut Running<C, B>,
-    p: u8,
-    disk: &mut D,
-    trace: &mut Trace,
-)
-    requires at { CanRun C.Meaning.meaning running.old (D.seen disk.old) p }
-    requires none { (chain_of running.old p).levels ≡ [] }
-    ensures { CallStepDone (λ c. placed_call_step C.Meaning.meaning p (Some c)) p
-        (moment running.old trace.old.notes (D.seen disk.old))
-        (moment running.new trace.new.notes (D.seen disk.new)) }
-{
-    if !running.store.has_grafts() {
-        return finish_inlined(running, p, None, disk, trace);
-    }
-    asking_step(running, p, disk, trace);
 }
 
 /// A step of process p's call, but for its place in the order.
@@ -231,6 +191,29 @@ pub fn step<C: Calls, B: Policy, D: Disk>(
 {
     step_call(running, p, disk, trace);
     requeue(running, p);
+}
+
+/// The next piece of process p's call, where nothing is held and no other call waits, no graft stands
+/// and nothing can hinder the call. Whether the call goes on: it is in the order then, and else it has
+/// ended. The order itself is left alone. It is inlined, as most pieces are done here.
+#[inline(always)]
+pub fn piece_alone<C: Calls, B: Policy, D: Disk>(
+    running: &mut Running<C, B>,
+    p: u8,
+    disk: &mut D,
+    trace: &mut Trace,
+) -> bool
+    requires at { CanRun C.Meaning.meaning (joined_in p running.old) (D.seen disk.old) p }
+    requires idle { IsIdle running.old }
+    requires plain { IsPlain running.old p }
+    ensures went { RefinesAndKeeps C.Meaning.meaning (placed_step C.Meaning.meaning p)
+        (moment (joined_in p running.old) trace.old.notes (D.seen disk.old))
+        (moment (joined_if result p running.new) trace.new.notes (D.seen disk.new)) }
+    ensures idle { IsIdle running.new }
+{
+    let flight = &mut running.calls[p as usize];
+    do_piece::<C, B, D>(&mut flight.call, &mut running.store, None, disk, trace);
+    flight.call.is_taken()
 }
 
 /// The drop of level d of process p's call, but for the call's place in the order.

@@ -120,7 +120,8 @@ impl Ram {
         put_at(&self.places, &mut self.bytes, a, from);
     }
 
-    /// Copies bytes in, the first to an address.
+    /// Copies bytes in, the first to an address. It is inlined, as most bytes lie in one page.
+    #[inline(always)]
     #[tactic(auto, using(crate::proofs::Pages::copies))]
     pub fn copy_in(&mut self, a: u32, from: &[u8])
         requires { a + length from.now ≤ RAM_BYTES }

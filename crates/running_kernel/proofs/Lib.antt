@@ -3,6 +3,7 @@ pub mod ViewLemmas
 pub mod StartLemmas
 pub mod HinderLemmas
 pub mod FreeLemmas
+pub mod PlainLemmas
 pub mod QueryLemmas
 pub mod ShownLemmas
 pub mod OpeningLemmas

@@ -3,6 +3,7 @@ pub mod Orders
 pub mod Views
 pub mod Sound
 pub mod Hindered
+pub mod Idle
 pub mod Queries
 pub mod Looking
 pub mod WholeBlocks

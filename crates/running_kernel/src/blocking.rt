@@ -1,6 +1,6 @@
 //! What keeps a step from being taken.
 
-ghost use Rattle.std.specs.Prelude.{◌≡◌, ℕ, true, None, Contains, option_map, All, List};
+ghost use Rattle.std.specs.Prelude.{◌≡◌, ◌<◌, ℕ, true, None, Contains, option_map, All, List, length};
 ghost use Rattle.kernel_model.specs.Bare.{call_with};
 ghost use Rattle.kernel_model.specs.GraftStep.{next_needs, lock_user};
 ghost use Rattle.kernel_model.specs.Objects.{Things};
@@ -19,6 +19,7 @@ ghost use Rattle.kernel_model.specs.Locks.{LockTable as Table, hindrance_by, low
 ghost use Rattle.undo_calls.specs.UndoLevels.{Logged};
 ghost use Rattle.kernel_state.specs.Stores.{world_of_store, queue_of, objects_of};
 ghost use Rattle.lock_table.specs.Masks.{held};
+ghost use Rattle.running_kernel.specs.Idle.{IsIdle, IsPlain};
 ghost use Rattle.running_kernel.specs.Hindered.{hindrance_of, blocking_by, IsFirstHindrance, IsStepHindrance};
 
 use crate::flights::{flight, number_of};
@@ -216,6 +217,32 @@ impl<C: Calls, B: Policy> Running<C, B> {
             return piece_hindrance::<C, B>(&self.locks, &self.store, p, &call.work);
         }
         graft_hindrance(&self.locks, &self.store, &self.images, p, &flight.chain)
+    }
+
+    /// Whether no call waits, and nothing is held.
+    pub fn is_idle(&self) -> bool
+        ensures { result ≡ true → IsIdle self.now }
+    {
+        self.order.is_empty() && self.locks.is_free()
+    }
+
+    /// Whether no graft stands, and process p has a call, in no graft, that no holder of a user lock
+    /// hinders.
+    pub fn is_plain(&self, p: u8) -> bool
+        requires { p < length self.now.calls.items }
+        ensures { result ≡ true → IsPlain self.now p }
+    {
+        if self.store.has_grafts() {
+            return false;
+        }
+        let flight = flight(&self.calls, p);
+        if flight.chain.levels.count() > 0 {
+            return false;
+        }
+        match flight.call.get() {
+            Some(call) => !waits_for_user(call.work.call),
+            None => false,
+        }
     }
 
     /// Whether a glance shows that nothing blocks the next step of process p's call: it is a piece

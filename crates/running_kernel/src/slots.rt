@@ -1,6 +1,6 @@
 //! Where a process's call stands while it is in flight.
 
-ghost use Rattle.std.specs.Prelude.{◌≡◌, None, option_copied};
+ghost use Rattle.std.specs.Prelude.{◌≡◌, None, is_some, option_copied};
 
 use crate::running::InFlight;
 use call_pieces::Work;
@@ -44,6 +44,13 @@ impl Slot {
         ensures { option_copied result ≡ self.now }
     {
         if self.taken { Some(&self.call) } else { None }
+    }
+
+    /// Whether a call stands here.
+    pub fn is_taken(&self) -> bool
+        ensures { result ≡ is_some self.now }
+    {
+        self.taken
     }
 
     /// The call has ended.

@@ -5,6 +5,7 @@ use Rattle.placed_laws.specs.Keeping.{first_call, first_placed}
 use Rattle.placed_laws.specs.Placed.{Placed, PlacedRun}
 use Rattle.placed_laws.specs.PlacedSteps.{placed_joins, with_placed_call}
 use Rattle.running_kernel.specs.WholeBlocks.{some_blocks}
+use Rattle.running_kernel.specs.Idle.{joined_in}
 use Rattle.running_kernel.specs.Views.{placed_of, run_of}
 use Rattle.placed_laws.proofs.Laws.{same_shown, others_stand}
 use Rattle.kernel_core.proofs.EventLemmas.{starts_by, uncalled_unordered}
@@ -19,7 +20,8 @@ returns g c =
     let a = c.args in
     let m = g.C.Meaning.Rules.meaning in
     let x = placed_of a.running.now in
-    let y = placed_of c.begin.new.running in
+    let z = joined_in a.p c.begin.new.running in
+    let y = placed_of z in
     let s = c.requires.at.abstraction in
     let call = call_with a.request.call a.request.bytes.now.items in
     starts_by m a.p a.request.number call a.running.now c.begin.new.running c.begin.result c.begin.ensures
@@ -30,7 +32,7 @@ returns g c =
       first = t;
       granted = h.granted;
       went = λ kept d.
-          went_silently m (λ r. placed_joins a.p (with_placed_call a.p (Some (first_placed a.request.number t)) r)) a.running.now c.begin.new.running kept d (λ notes blocks io. h.value notes blocks io) h.running
+          went_silently m (λ r. placed_joins a.p (with_placed_call a.p (Some (first_placed a.request.number t)) r)) a.running.now z kept d (λ notes blocks io. h.value notes blocks io) h.running
           (stood_as m y (placed_joins a.p (with_placed_call a.p (Some (first_placed a.request.number t)) (run_of x some_blocks [] []))) (joins a.p (with_call a.p (Some (first_call a.request.number t)) (record { kernel = s.kernel; blocks = some_blocks; notes = []; io = [] })))
           ((others_stand g.C.Meaning.Rules.meaning g.C.Meaning.Rules.laws).beginning (run_of x some_blocks [] []) (record { kernel = s.kernel; blocks = some_blocks; notes = []; io = [] }) a.p a.request.number call t (run_at m x s) c.requires.none c.requires.alive h.granted) here)
           (sym (ap (λ (z : Placed). z.world) here)) (sym (ap (λ (z : Placed). z.clock) here));

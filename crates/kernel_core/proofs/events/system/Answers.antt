@@ -9,6 +9,7 @@ use Rattle.kernel_model.specs.declared.Refusal.TheVariants.{NoProcess, Busy}
 use Rattle.placed_laws.specs.Keeping.{first_placed}
 use Rattle.placed_laws.specs.PlacedSteps.{placed_joins, with_placed_call}
 use Rattle.placed_laws.specs.PlacedEvents.{placed_begun, placed_event_on, placed_last, placed_settled}
+use Rattle.running_kernel.specs.Idle.{joined_in}
 use Rattle.running_kernel.specs.Views.{placed_of}
 use Rattle.kernel_core.proofs.EventLemmas.{refused_early, refused_elsewise, no_call_told, sys_begun, sys_busy, sys_refused, sys_unliving, went_refused, went_refused_at}
 use Rattle.kernel_core.proofs.WentLemmas.{went_as, went_then}
@@ -60,5 +61,5 @@ returns-in-Ok g c =
     let e = g.D.Disk.seen c.run.new.disk in
     went_as m (placed_event_on m a.request.number (Sys a.p (call_with a.request.call a.request.bytes.now.items))) (λ r. placed_last m a.p (placed_begun m a.request.number a.p (Ok t) r)) a.running.now c.run.new.running a.trace.now.notes c.run.new.trace.notes d e
     (sys_begun m (placed_of a.running.now) a.request.number a.p (call_with a.request.call a.request.bytes.now.items) t (sym c.living.ensures.value ∙ c.if-not-living.false) (no_call_told (placed_of a.running.now) a.p c.call_number.result c.call_number.ensures c.in_default.is) h.granted)
-    (went_then m (λ r. placed_joins a.p (with_placed_call a.p (Some (first_placed a.request.number t)) r)) (λ r. placed_last m a.p (placed_settled m r)) a.running.now c.begin.new.running c.run.new.running a.trace.now.notes a.trace.now.notes c.run.new.trace.notes d d e
+    (went_then m (λ r. placed_joins a.p (with_placed_call a.p (Some (first_placed a.request.number t)) r)) (λ r. placed_last m a.p (placed_settled m r)) a.running.now (joined_in a.p c.begin.new.running) c.run.new.running a.trace.now.notes a.trace.now.notes c.run.new.trace.notes d d e
     (h.went a.trace.now.notes d) c.run.ensures)

@@ -1,12 +1,13 @@
-use Rattle.std.proofs.Common.{◌≡◌, sym, subst, ap, ◌∙◌, arith, Some, None}
+use Rattle.std.proofs.Common.{◌≡◌, [], ◌∷◌, ◌++◌, refl, sym, subst, ap, ◌∙◌, arith, Some, None}
 use Rattle.graft_levels.specs.declared.Chain.{Chain}
 use Rattle.graft_loader.specs.Slots.{table_of}
 use Rattle.graft_levels.specs.Calls.{IsPlaced, AreInside}
 use Rattle.kernel_state.specs.Stores.{objects_of}
 use Rattle.call_pieces.specs.Works.{stage_of}
 use Rattle.running_kernel.specs.declared.running.InFlight.{InFlight}
+use Rattle.running_kernel.specs.Orders.{joined}
 use Rattle.running_kernel.specs.Owned.{AreOwned}
-use Rattle.kernel_steps.proofs.OnceLemmas.{once_joined, room_for}
+use Rattle.kernel_steps.proofs.OnceLemmas.{once_joined}
 use Rattle.running_kernel.proofs.OrderLemmas.{processes_joined, counts_joined}
 use Rattle.kernel_steps.proofs.CallLemmas.{with_call, still_sixteen, chains_stay, callers_set}
 use Rattle.kernel_steps.proofs.RunningLemmas.{call_begun, call_kept, within_flights}
@@ -14,9 +15,6 @@ use Rattle.kernel_steps.proofs.calls.begin.Goals as goal
 
 pub begin_call-requires-clause-process : goal.begin_call-requires-clause-process
 begin_call-requires-clause-process g c = within_flights c.args.running.now.calls.items c.args.p c.requires.at.running.sixteen c.requires.at.process
-
-pub push-requires : goal.push-requires
-push-requires g c = room_for c.args.p c.args.running.now.order c.requires.at.process c.requires.at.running.order c.requires.at.running.once c.requires.new
 
 pub returns-in-Err : goal.returns-in-Err
 returns-in-Err g c =
@@ -60,15 +58,15 @@ returns-in-Ok g c =
       first = stage_of s.work;
       granted = s.granted;
       value = λ notes blocks io.
-          call_begun x c.args.p f new c.joined.result c.push.new.self small set c.joined.ensures c.push.ensures blocks notes io;
+          call_begun x c.args.p f new (joined c.args.p) (x.order ++ joined c.args.p ∷ []) small set refl refl blocks notes io;
       running = record {
         sixteen = still_sixteen x.calls.items c.args.p (Some f) new set ∙ r.sixteen;
         callers = callers_set x.calls.items c.args.p (Some f) new small set r.callers (λ e is. grind (arith, is, caller_is));
         placed = λ q h. subst (λ (chain : Chain). IsPlaced x.store x.locks q chain.levels chain.undo) (sym (same q)) (r.placed q h);
         inside = λ q h. subst (λ (chain : Chain). AreInside (table_of x.images) (objects_of x.store).accounts q chain.levels) (sym (same q)) (r.inside q h);
-        counts = counts_joined x.clock c.args.p x.order c.joined.result c.push.new.self c.joined.ensures c.push.ensures r.counts;
-        order = processes_joined c.args.p x.order c.joined.result c.push.new.self c.joined.ensures c.push.ensures c.requires.at.process r.order;
-        once = once_joined c.args.p x.order c.joined.result c.push.new.self c.joined.ensures c.push.ensures r.once c.requires.new;
+        counts = counts_joined x.clock c.args.p x.order (joined c.args.p) (x.order ++ joined c.args.p ∷ []) refl refl r.counts;
+        order = processes_joined c.args.p x.order (joined c.args.p) (x.order ++ joined c.args.p ∷ []) refl refl c.requires.at.process r.order;
+        once = once_joined c.args.p x.order (joined c.args.p) (x.order ++ joined c.args.p ∷ []) refl refl r.once c.requires.new;
         loaded = r.loaded;
         owner = r.owner;
         own = λ q h. subst (λ (chain : Chain). AreOwned (r.owner q) chain.levels chain.undo) (sym (same q)) (r.own q h);

@@ -13,7 +13,7 @@ use Rattle.running_kernel.specs.Views.{flight_of, call_in_place}
 use Rattle.kernel_steps.proofs.CallLemmas.{with_call_of}
 use Rattle.kernel_steps.proofs.MoveLemmas.{fetched}
 use Rattle.kernel_steps.proofs.StepLemmas.{call_there, finish_done}
-use Rattle.kernel_steps.proofs.steps.finish_inlined.Goals as goal
+use Rattle.kernel_steps.proofs.steps.finish.Goals as goal
 
 pub do_piece-requires-clause-ready : goal.do_piece-requires-clause-ready
 do_piece-requires-clause-ready g c =
