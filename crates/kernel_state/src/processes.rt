@@ -15,7 +15,6 @@ ghost use Rattle.kernel_state.specs.Stores.{world_of_store, objects_of, queue_of
 
 use crate::Store;
 use graft_points::Policy;
-use kernel_model::QueueRow;
 
 impl<B: Policy> Store<B> {
     /// Whether process p lives.
@@ -23,7 +22,7 @@ impl<B: Policy> Store<B> {
         ensures value { result ≡ lives (queue_of self.now) p }
         ensures number { result ≡ true → p < 16 }
     {
-        is_among(self.procs.rows(), p)
+        self.procs.living(p)
     }
 
     /// The least number that isn't living. None where 16 processes live.
@@ -161,11 +160,4 @@ impl<B: Policy> Store<B> {
     {
         self.procs.drop_handler(p, pt);
     }
-}
-
-/// Whether a process stands in the queue.
-fn is_among(rows: &[QueueRow], p: u32) -> bool
-    ensures { result ≡ lives rows.now p }
-{
-    rows.iter().any(|row| u32::from(row.process) == p)
 }

@@ -14,6 +14,6 @@ mod text;
 pub use ends::{
     print_boot, print_fault, print_left, print_loaded, print_unloaded, print_unloaded_at, usage,
 };
-pub use print::print_note;
+pub use print::{append_note, print_note};
 pub use rows::{LentRow, print_lent, print_row};
 pub use text::Text;

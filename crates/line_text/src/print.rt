@@ -167,9 +167,9 @@ fn cause(out: &mut Buffer, c: Cause)
 
 /// The text of a note, without its newline.
 fn note_bytes(note: &BareNote, bytes: &[u8], out: &mut Buffer)
-    requires empty { out.old ≡ [] }
+    requires room { length out.old ≤ 960 }
     requires block { length bytes.now ≤ 512 }
-    ensures text { out.new ≡ note_text (note_with note.now bytes.now) }
+    ensures text { out.new ≡ out.old ++ note_text (note_with note.now bytes.now) }
     ensures len { length out.new < 2048 }
 {
     match *note {
@@ -222,12 +222,22 @@ fn note_bytes(note: &BareNote, bytes: &[u8], out: &mut Buffer)
     }
 }
 
+/// The line of a note with the bytes that it gives, with its newline, comes behind a text of at most
+/// 960 bytes.
+pub fn append_note(note: &BareNote, bytes: &[u8], out: &mut Text)
+    requires room { length out.old ≤ 960 }
+    requires block { length bytes.now ≤ 512 }
+    ensures { out.new ≡ out.old ++ line (note_text (note_with note.now bytes.now)) }
+{
+    note_bytes(note, bytes, &mut out.bytes);
+    add(&mut out.bytes, b"\n".as_slice());
+}
+
 /// `out` becomes the line of a note with the bytes that it gives, with its newline.
 pub fn print_note(note: &BareNote, bytes: &[u8], out: &mut Text)
     requires block { length bytes.now ≤ 512 }
     ensures { out.new ≡ line (note_text (note_with note.now bytes.now)) }
 {
-    out.bytes.clear();
-    note_bytes(note, bytes, &mut out.bytes);
-    add(&mut out.bytes, b"\n".as_slice());
+    out.clear();
+    append_note(note, bytes, out);
 }

@@ -1,4 +1,5 @@
 pub mod Lists
-pub mod Queue
+pub mod Rows
+pub mod Flags
 pub mod Handlers
 pub mod Tables

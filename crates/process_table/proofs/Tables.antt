@@ -13,7 +13,7 @@ use Rattle.kernel_model.specs.Pieces.{freed_by}
 use Rattle.kernel_model.specs.Handlers.{AreHandlers, handlers_without_process, handlers_pass}
 use Rattle.process_table.specs.Processes.{Table, IsTable, IsQueue, is_of}
 use Rattle.process_table.proofs.Handlers.{low_pass}
-use Rattle.process_table.proofs.Queue.{opening-queue, without-queue, living-without}
+use Rattle.process_table.proofs.Rows.{opening-queue, without-queue, living-without}
 
 -- the queue changes, and whoever lived lives
 pub requeued : (t : Table) (rows : List QueueRow) → IsTable t → IsQueue rows →

@@ -101,6 +101,11 @@ pub record IsQueue (rows : List QueueRow) : Type 0 where
   pub nices : list_all (λ (r : QueueRow). nat_le r.nice 39) rows ≡ true
   pub root : lives rows 0 ≡ true
 
+-- a flag for each number says whether the process lives
+pub record AreFlags (flags : List Bool) (rows : List QueueRow) : Type 0 where
+  pub count : length flags ≡ 16
+  pub say : (p : ℕ) → slice_index_or flags p false ≡ lives rows p
+
 -- what always holds of the processes: what isn't living has nothing, and handlers are of numbers
 -- that processes have
 pub record IsSound (s : Processes) : Type 0 where

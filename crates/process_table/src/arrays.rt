@@ -1,6 +1,6 @@
 //! The work on each array, as functions over plain lists.
 
-ghost use Rattle.std.specs.Prelude.{◌≡◌, ℕ, ◌+◌, ◌*◌, ◌<◌, ◌≤◌, ◌==◌, true, cond, not, length, map, filter, IfSome, IfNone, slice_index, slice_index_or, remove, None, [], ◌∷◌, ◌++◌};
+ghost use Rattle.std.specs.Prelude.{◌≡◌, ℕ, ◌+◌, ◌*◌, ◌<◌, ◌≤◌, ◌==◌, true, false, cond, not, length, map, filter, IfSome, IfNone, slice_index, slice_index_or, slice_set, remove, None, [], ◌∷◌, ◌++◌};
 ghost use Rattle.std.specs.List.{list_any};
 ghost use Rattle.kernel_model.specs.declared.QueueRow.{QueueRow as Row};
 ghost use Rattle.kernel_model.specs.Queue.{IsLeastFree, new_row, queue_without, one_more_slice};
@@ -55,6 +55,22 @@ pub(crate) fn least_free(rows: &[QueueRow]) -> Option<u8>
         }
     }
     None
+}
+
+/// Flags of which none is set.
+pub(crate) fn nobody() -> [bool; PROCESSES]
+    ensures value { (p : ℕ) → slice_index_or result p false ≡ false }
+    ensures len { length result ≡ 16 }
+{
+    [false; PROCESSES]
+}
+
+/// Sets the flag of a process.
+pub(crate) fn put_flag(flags: &mut [bool], p: u8, v: bool)
+    requires { p < length flags.old }
+    ensures { flags.new ≡ slice_set flags.old p v }
+{
+    flags[p as usize] = v;
 }
 
 /// Takes a process out of the queue.
@@ -165,18 +181,13 @@ pub(crate) fn change_nice(rows: &mut ArrayVec<QueueRow, PROCESSES>, p: u8, v: u8
     put_nice(rows.as_mut_slice(), p, v);
 }
 
-/// A row with one slice more, if it is that of the process.
-fn row_with_slice(row: QueueRow, p: u8) -> QueueRow
-    ensures { result ≡ cond (row.process == p)
-        (record row { slices = one_more_slice row.slices }) row }
+/// Gives a row one slice more, if it is that of the process. No other row is written.
+fn raise_row(row: &mut QueueRow, p: u8)
+    ensures { row.new ≡ cond (row.old.process == p)
+        (record row.old { slices = one_more_slice row.old.slices }) row.old }
 {
     if row.process == p {
-        QueueRow {
-            slices: row.slices.saturating_add(1),
-            ..row
-        }
-    } else {
-        row
+        row.slices = row.slices.saturating_add(1);
     }
 }
 
@@ -185,7 +196,7 @@ fn count_slice(rows: &mut [QueueRow], p: u8)
     ensures { rows.new ≡ queue_with_slice p rows.old }
 {
     for row in rows.iter_mut() {
-        *row = row_with_slice(*row, p);
+        raise_row(row, p);
     }
 }
 

@@ -4,6 +4,7 @@
 #![tactic(auto)]
 
 mod arrays;
+mod queue;
 mod table;
 #[cfg(test)]
 mod tests;

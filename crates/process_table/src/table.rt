@@ -10,12 +10,12 @@ ghost use Rattle.kernel_model.specs.Handlers.{has_room, handlers_with, handlers_
 ghost use Rattle.kernel_model.specs.Objects.{at, at2};
 
 use crate::arrays::{
-    EACH, HANDLERS, LOCKS, NUMBERS, change_nice, clear_cells, close_files, closed_files,
-    first_queue, fits, free_holders, free_locks, is_listed, join, least_free, move_back, put_last,
-    raise_slices, remove_handler, remove_handlers, take_out, zero_cells,
+    EACH, HANDLERS, LOCKS, NUMBERS, clear_cells, close_files, closed_files, fits, free_holders,
+    free_locks, put_last, remove_handler, remove_handlers, zero_cells,
 };
+use crate::queue::Queue;
 use arrayvec::ArrayVec;
-use kernel_model::{OpenRow, PROCESSES, QueueRow};
+use kernel_model::{OpenRow, QueueRow};
 use std::marker::Model;
 
 /// The living processes, with their cells, open files, user locks and handlers.
@@ -23,7 +23,7 @@ use std::marker::Model;
 /// Contracts see the arrays, through `processes_of`: what the kernel's state has of its processes.
 #[derive(Drop)]
 pub struct Procs {
-    rows: ArrayVec<QueueRow, PROCESSES>,
+    queue: Queue,
     cells: [u32; NUMBERS],
     files: [Option<OpenRow>; NUMBERS],
     holders: [Option<u8>; LOCKS],
@@ -36,7 +36,7 @@ impl Model for Procs {
     ghost Value = { Table };
 
     ghost view = { λ p. record {
-      queue = p.rows.items;
+      queue = p.queue;
       cells = p.cells;
       files = p.files;
       holders = p.holders;
@@ -44,7 +44,7 @@ impl Model for Procs {
     } };
 
     ghost invariant = { λ p. IsTable (record {
-      queue = p.rows.items;
+      queue = p.queue;
       cells = p.cells;
       files = p.files;
       holders = p.holders;
@@ -68,7 +68,7 @@ impl Procs {
         ensures { processes_of result ≡ opening }
     {
         Procs {
-            rows: first_queue(),
+            queue: Queue::new(),
             cells: zero_cells(),
             files: closed_files(),
             holders: free_holders(),
@@ -77,17 +77,18 @@ impl Procs {
     }
 
     /// Whether process p lives.
-    pub fn living(&self, p: u8) -> bool
-        ensures { result ≡ lives self.now.queue p }
+    pub fn living(&self, p: u32) -> bool
+        ensures value { result ≡ lives self.now.queue p }
+        ensures number { result ≡ true → p < 16 }
     {
-        is_listed(self.rows.as_slice(), p)
+        self.queue.has(p)
     }
 
     /// The least number that isn't living. None where 16 processes live.
     pub fn free(&self) -> Option<u8>
         ensures { result ≡ free_process self.now.queue 16 0 }
     {
-        least_free(self.rows.as_slice())
+        self.queue.least_free()
     }
 
     /// The least number that isn't living joins at the back, with nice 20 and slices 0. None, with
@@ -98,8 +99,8 @@ impl Procs {
         ensures full { IfNone result ((q : ℕ) → q < 16 → lives self.old.queue q ≡ true) }
         ensures value { processes_of self.new ≡ spawned result (processes_of self.old) }
     {
-        let process = least_free(self.rows.as_slice())?;
-        join(&mut self.rows, process);
+        let process = self.queue.least_free()?;
+        self.queue.join(process);
         Some(process)
     }
 
@@ -109,7 +110,7 @@ impl Procs {
         requires not_root { 0 < p }
         ensures { processes_of self.new ≡ without p (processes_of self.old) }
     {
-        take_out(&mut self.rows, p);
+        self.queue.take_out(p);
         clear_cells(&mut self.cells, p);
         close_files(&mut self.files, p);
         free_locks(&mut self.holders, p);
@@ -122,7 +123,7 @@ impl Procs {
         ensures { processes_of self.new
             ≡ record (processes_of self.old) { queue = queue_to_back p self.old.queue } }
     {
-        move_back(&mut self.rows, p);
+        self.queue.move_back(p);
     }
 
     /// The rows of the living processes, front first.
@@ -131,7 +132,7 @@ impl Procs {
         ensures few { length result.now ≤ 16 }
         ensures sound { IsSound (processes_of self.now) }
     {
-        self.rows.as_slice()
+        self.queue.rows()
     }
 
     /// Gives process p another nice, 0 to 39.
@@ -141,7 +142,7 @@ impl Procs {
         ensures { processes_of self.new
             ≡ record (processes_of self.old) { queue = with_nice p v self.old.queue } }
     {
-        change_nice(&mut self.rows, p, v);
+        self.queue.change_nice(p, v);
     }
 
     /// Raises the slices of process p by one, up to 4,294,967,295.
@@ -150,7 +151,7 @@ impl Procs {
         ensures { processes_of self.new
             ≡ record (processes_of self.old) { queue = queue_with_slice p self.old.queue } }
     {
-        raise_slices(&mut self.rows, p);
+        self.queue.raise_slices(p);
     }
 
     /// Cell k of process p.

@@ -14,7 +14,7 @@ use crate::rows::print_found;
 use graft_points::Policy;
 use kernel_core::{Kernel, Notes, RowPlace};
 use kernel_model::{BareNote, NoMemory, PROCESSES};
-use line_text::{Text, print_left, print_note};
+use line_text::{Text, append_note, print_left, print_note};
 use std::alloc::Global;
 use std::marker::Model;
 
@@ -22,13 +22,16 @@ use std::marker::Model;
 /// one more.
 const LINES_BYTES: usize = 3_028_992;
 
+/// Behind so many bytes the line of a note finds room in the first text.
+const FEW_BYTES: usize = 960;
+
 /// The bytes that are written at once. Contracts see their list. Memory is taken once.
 ///
-/// Most events write one line, which stands where it was printed. It is copied to the others only
-/// when a second comes.
+/// Most events write a few short lines, which stand where they were printed. They are copied to the
+/// others only when more come.
 #[derive(Drop)]
 pub struct Lines {
-    /// The first line, while there are no others.
+    /// The first lines, while there are no others.
     first: Text,
     /// All lines, where there are more; else none.
     bytes: Vec<u8>,
@@ -45,7 +48,7 @@ impl Model for Lines {
     ghost invariant = { λ l. (length l.bytes.items ≤ 3028992) × (3028992 ≤ vec_capacity l.bytes) };
 }
 
-/// Puts a line behind the bytes of others. Where there are none, the first line comes before it.
+/// Puts a line behind the bytes of others. Where there are none, the first lines come before it.
 fn put_behind(bytes: &mut Vec<u8>, first: &Text, text: &Text)
     requires room { length (first_or_all first.now bytes.old.items) + 2048 ≤ 3028992 }
     requires capacity { 3028992 ≤ vec_capacity bytes.old }
@@ -61,13 +64,14 @@ fn put_behind(bytes: &mut Vec<u8>, first: &Text, text: &Text)
     let _ = bytes.extend_from_slice(text.as_slice());
 }
 
-/// Prints the line of a note, and nothing else.
-fn print_first(note: &BareNote, given: &[u8], first: &mut Text)
+/// The line of a note, with the bytes that it gives, comes behind the first lines.
+fn append_first(note: &BareNote, given: &[u8], first: &mut Text)
+    requires room { length first.old ≤ 960 }
     requires block { length given.now ≤ 512 }
-    ensures value { first.new ≡ line (note_text (note_with note.now given.now)) }
-    ensures fits { length first.new ≤ 2048 }
+    ensures value { first.new ≡ first.old ++ line (note_text (note_with note.now given.now)) }
+    ensures fits { length first.new ≤ length first.old + 2048 }
 {
-    print_note(note, given, first);
+    append_note(note, given, first);
     let _ = first.as_slice();
 }
 
@@ -130,7 +134,22 @@ impl Lines {
         ensures value { self.new ≡ line (note_text (note_with note.now given.now)) }
         ensures fits { length self.new ≤ 2048 }
     {
-        print_first(note, given, &mut self.first);
+        append_first(note, given, &mut self.first);
+    }
+
+    /// The line of a note more. It comes behind the first lines, while they are few bytes.
+    fn add_note(&mut self, note: &BareNote, given: &[u8], text: &mut Text)
+        requires room { length self.old + 2048 ≤ 3028992 }
+        requires block { length given.now ≤ 512 }
+        ensures value { self.new ≡ self.old ++ line (note_text (note_with note.now given.now)) }
+        ensures fits { length self.new ≤ length self.old + 2048 }
+    {
+        if self.bytes.is_empty() && self.first.as_slice().len() <= FEW_BYTES {
+            append_first(note, given, &mut self.first);
+            return;
+        }
+        print_note(note, given, text);
+        self.add(text);
     }
 
     /// The lines of the notes of an event.
@@ -147,7 +166,9 @@ impl Lines {
         self.add_each(rest, others, text);
     }
 
-    /// The lines of these notes, which gave these bytes, one behind the other.
+    /// The lines of these notes, which gave these bytes, one behind the other. It isn't inlined: most
+    /// events have one note.
+    #[inline(never)]
     fn add_each(&mut self, list: &[BareNote], bytes: &[u8], text: &mut Text)
         requires given { AreGiven list.now bytes.now }
         requires room { length self.old + 2048 * length list.now ≤ 3028992 }
@@ -157,8 +178,7 @@ impl Lines {
             return;
         };
         let (given, others) = bytes.split_at(count_given(*note));
-        print_note(note, given, text);
-        self.add(text);
+        self.add_note(note, given, text);
         self.add_each(rest, others, text);
     }
 

@@ -1,6 +1,6 @@
 use Rattle.std.proofs.Common.{arith}
 use Rattle.std.proofs.lemmas.Grind.{common_steps}
-use Rattle.process_table.proofs.Queue.{free_process-living, free_process-free, free_process-none}
+use Rattle.process_table.proofs.Rows.{free_process-living, free_process-free, free_process-none}
 use Rattle.process_table.proofs.arrays.least_free.Goals as goal
 
 pub loop-p-preserved : goal.loop-p-preserved

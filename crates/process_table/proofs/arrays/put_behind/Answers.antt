@@ -1,5 +1,5 @@
 use Rattle.std.proofs.Common.{arith}
-use Rattle.process_table.proofs.Queue.{turned_more}
+use Rattle.process_table.proofs.Rows.{turned_more}
 use Rattle.process_table.proofs.arrays.put_behind.Goals as goal
 
 pub loop-preserved : goal.loop-preserved

@@ -1,4 +1,4 @@
-use Rattle.process_table.proofs.Queue.{IsTurned}
+use Rattle.process_table.proofs.Rows.{IsTurned}
 use Rattle.process_table.proofs.arrays.put_behind.Given as goal
 
 abbrev pub invariant-loop : goal.invariant-loop

@@ -1,5 +1,5 @@
 use Rattle.std.proofs.Common.{◌∙◌}
-use Rattle.process_table.proofs.Queue.{slice-queue, living-slice}
+use Rattle.process_table.proofs.Rows.{slice-queue, living-slice}
 use Rattle.process_table.proofs.Tables.{requeued}
 use Rattle.process_table.proofs.table.Procs.add_slice.Goals as goal
 

@@ -1,5 +1,5 @@
 use Rattle.std.proofs.Common.{◌∙◌}
-use Rattle.process_table.proofs.Queue.{nice-queue, living-nice}
+use Rattle.process_table.proofs.Rows.{nice-queue, living-nice}
 use Rattle.process_table.proofs.Tables.{requeued}
 use Rattle.process_table.proofs.table.Procs.set_nice.Goals as goal
 

@@ -1,5 +1,5 @@
 use Rattle.std.proofs.Common.{◌∙◌}
-use Rattle.process_table.proofs.Queue.{to_back-queue, living-to_back}
+use Rattle.process_table.proofs.Rows.{to_back-queue, living-to_back}
 use Rattle.process_table.proofs.Tables.{requeued}
 use Rattle.process_table.proofs.table.Procs.to_back.Goals as goal
 
