@@ -163,6 +163,9 @@ impl Lines {
         };
         let (given, others) = bytes.split_at(count_given(*note));
         self.add_first(note, given);
+        if rest.is_empty() {
+            return;
+        }
         self.add_each(rest, others, text);
     }
 
