@@ -1,2 +1,3 @@
+pub mod Speaking
 pub mod Words
 pub mod Answers

@@ -7,7 +7,7 @@ ghost use Rattle.kernel_model.specs.Bytes.{hex_word};
 ghost use Rattle.kernel_model.specs.Script.{WRITE_DIGITS, IMAGE_DIGITS, amount_at, name_word, open_by, write_by, serve_by, stream_write_by, call_of, happens_by, loads_by, entry_of, is_blank, parsed_line};
 ghost use Rattle.script_text.specs.Answers.{Answers, SetsWithin};
 
-use crate::commands::{forms, named, sets_up, word_size};
+use crate::commands::named;
 use crate::digits::name;
 use crate::hexes::{loaded, written};
 use crate::image_bytes::ImageBytes;
@@ -267,19 +267,19 @@ pub fn parse_line<'a>(
     if is_blank_line(line) {
         return Ok(Entry::Blank);
     }
-    let Some(command) = named(line) else {
+    let Some(spoken) = named(line) else {
         return Err(ScriptFault::UnknownCommand);
     };
-    if sets_up(command) == booted {
+    if spoken.sets_up == booted {
         return Err(ScriptFault::WrongPlace);
     }
     let mut words = WordsRead {
         numbers: ArrayVec::new(),
         last: &line[..0],
     };
-    match read_words(forms(command), skip(line, word_size(command)), &mut words) {
+    match read_words(spoken.forms, skip(line, spoken.size), &mut words) {
         Reading::BadWord => Err(ScriptFault::BadWord),
         Reading::BadNumber => Err(ScriptFault::BadNumber),
-        Reading::Said => entry_said(command, words.numbers.as_slice(), words.last, bytes),
+        Reading::Said => entry_said(spoken.command, words.numbers.as_slice(), words.last, bytes),
     }
 }
