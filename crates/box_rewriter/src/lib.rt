@@ -1,7 +1,8 @@
 //! The rewriter of the sandbox: boxed code of raw code (docs/SANDBOX.md).
 #![tactic(auto)]
 
-ghost use Rattle.std.specs.Prelude.{◌≡◌, ℕ, ◌+◌, ◌*◌, ◌++◌, ◌<◌, ◌≤◌, [], ◌∷◌, true, Ok, None, Some, length, slice_index, IfOk, IfErr, OnOk, MatchOption};
+ghost use Rattle.std.specs.Prelude.{◌≡◌, ℕ, ◌+◌, ◌*◌, ◌++◌, ◌<◌, ◌≤◌, [], ◌∷◌, true, Ok, None};
+ghost use Rattle.std.specs.Prelude.{Some, length, slice_index, IfOk, IfErr, OnOk, MatchOption};
 ghost use Rattle.std.specs.List.{list_all, flat_map};
 ghost use Rattle.kernel_model.specs.Instructions.{fits};
 ghost use Rattle.kernel_model.specs.Boxed as spec;

@@ -1,6 +1,8 @@
 //! `Cache`.
 
-ghost use Rattle.std.specs.Prelude.{◌≡◌, ℕ, ◌+◌, ◌*◌, ◌<◌, ◌≤◌, ◌++◌, true, false, [], length, take, drop, replicate, Option, Some, None, IfSome, IfNone, slice_index};
+ghost use Rattle.std.specs.Prelude.{◌≡◌, ℕ, ◌+◌, ◌*◌, ◌<◌, ◌≤◌, ◌++◌, true, false, [], length};
+ghost use Rattle.std.specs.Prelude.{take, drop, replicate, Option, Some, None, IfSome, IfNone};
+ghost use Rattle.std.specs.Prelude.{slice_index};
 ghost use Rattle.std.specs.List.{position};
 ghost use Rattle.std.specs.Option.{is_none};
 ghost use Rattle.kernel_model.specs.declared.FrameRow.{FrameRow as Row};
@@ -62,7 +64,8 @@ fn new_row(frame: u8, owner: u8, block: u32) -> FrameRow
 }
 
 impl Cache {
-    ghost use Rattle.buffer_cache.specs.Frames.{row_at, in_use, holds, filled, touched, swapped, with_row, handed_over, IsFrames};
+    ghost use Rattle.buffer_cache.specs.Frames.{row_at, in_use, holds, filled, touched, swapped};
+    ghost use Rattle.buffer_cache.specs.Frames.{with_row, handed_over, IsFrames};
 
     /// So many frames, 2 to 64, none in use.
     pub fn new(frames: u8) -> Cache

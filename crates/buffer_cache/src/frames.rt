@@ -1,6 +1,8 @@
 //! The work on rows and on the order of use, as functions over plain lists.
 
-ghost use Rattle.std.specs.Prelude.{◌≡◌, ℕ, true, false, IfSome, IfNone, ◌<◌, ◌≤◌, ◌==◌, not, length, take, filter, map, cond, Some, None, Option, replicate, slice_index, slice_set, option_map, remove, [], ◌∷◌, ◌++◌};
+ghost use Rattle.std.specs.Prelude.{◌≡◌, ℕ, true, false, IfSome, IfNone, ◌<◌, ◌≤◌, ◌==◌, not};
+ghost use Rattle.std.specs.Prelude.{length, take, filter, map, cond, Some, None, Option, replicate};
+ghost use Rattle.std.specs.Prelude.{slice_index, slice_set, option_map, remove, [], ◌∷◌, ◌++◌};
 ghost use Rattle.std.specs.List.{position};
 ghost use Rattle.std.specs.Option.{is_none, is_some};
 ghost use Rattle.kernel_model.specs.declared.FrameRow.{FrameRow as Row};

@@ -1,6 +1,8 @@
 //! The index from blocks to frames.
 
-ghost use Rattle.std.specs.Prelude.{◌≡◌, ℕ, ◌+◌, ◌*◌, ◌%◌, ◌<◌, ◌≤◌, true, false, IfSome, IfNone, length, slice_index_or, slice_set, replicate, Option, Some, None};
+ghost use Rattle.std.specs.Prelude.{◌≡◌, ℕ, ◌+◌, ◌*◌, ◌%◌, ◌<◌, ◌≤◌, true, false, IfSome, IfNone};
+ghost use Rattle.std.specs.Prelude.{length, slice_index_or, slice_set, replicate, Option, Some};
+ghost use Rattle.std.specs.Prelude.{None};
 ghost use Rattle.std.specs.List.{position, count_by};
 ghost use Rattle.std.specs.Option.{is_some};
 ghost use Rattle.kernel_model.specs.declared.FrameRow.{FrameRow as Row};

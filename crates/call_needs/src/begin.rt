@@ -1,6 +1,7 @@
 //! Calls that are refused at once.
 
-ghost use Rattle.std.specs.Prelude.{◌≡◌, ℕ, ◌+◌, ◌<◌, ◌≤◌, ◌==◌, ◌||◌, true, not, length, nat_lt, nat_le, is_some, None, IfOk, IfErr};
+ghost use Rattle.std.specs.Prelude.{◌≡◌, ℕ, ◌+◌, ◌<◌, ◌≤◌, ◌==◌, ◌||◌, true, not, length, nat_lt};
+ghost use Rattle.std.specs.Prelude.{nat_le, is_some, None, IfOk, IfErr};
 ghost use Rattle.kernel_model.specs.declared.Refusal.TheVariants.{BadFd, BadIndex, BadPoint, Denied, NoImage};
 ghost use Rattle.kernel_model.specs.World.{ImageTable};
 ghost use Rattle.kernel_model.specs.ImageMask.{TellsImages, has_bit};

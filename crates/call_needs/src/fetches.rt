@@ -5,7 +5,8 @@ ghost use Rattle.kernel_model.specs.Needs.{frame_of_block};
 ghost use Rattle.kernel_model.specs.Fetch.{chosen_by};
 ghost use Rattle.buffer_cache.specs.Frames.{in_use};
 ghost use Rattle.kernel_state.specs.Stores.{cache_of};
-ghost use Rattle.call_needs.specs.Fetching.{FetchReady, FetchDone, PlaceDone, NamesFrame, moment, fetch_of, fetch_ahead_of, load_of, place_of, evict_of};
+ghost use Rattle.call_needs.specs.Fetching.{FetchReady, FetchDone, PlaceDone, NamesFrame, moment};
+ghost use Rattle.call_needs.specs.Fetching.{fetch_of, fetch_ahead_of, load_of, place_of, evict_of};
 ghost use Rattle.call_needs.specs.Planning.{HasRoomFrame, IsPlan, IsRoomIn};
 
 use crate::Access;

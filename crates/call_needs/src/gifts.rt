@@ -1,6 +1,7 @@
 //! The bytes that a piece gives.
 
-ghost use Rattle.std.specs.Prelude.{◌≡◌, ◌≤◌, ◌<◌, ◌+◌, ◌++◌, true, Some, None, drop, length, slice_range, IfSome, IfNone};
+ghost use Rattle.std.specs.Prelude.{◌≡◌, ◌≤◌, ◌<◌, ◌+◌, ◌++◌, true, Some, None, drop, length};
+ghost use Rattle.std.specs.Prelude.{slice_range, IfSome, IfNone};
 ghost use Rattle.std.specs.Borrow.{sem};
 ghost use Rattle.kernel_model.specs.Fetch.{bytes_of};
 ghost use Rattle.buffer_cache.specs.Frames.{in_use};

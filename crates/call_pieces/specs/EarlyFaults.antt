@@ -1,11 +1,16 @@
 -- No call is refused at once because the disk failed: it makes no call of the disk before its first
 -- piece.
-use Rattle.std.specs.Prelude.{◌≡◌, ℕ, ◌+◌, ◌==◌, ◌||◌, Bool, true, false, cond, not, nat_le, nat_lt, is_some, length, Option, Some, None, Result, Ok, Err}
+use Rattle.std.specs.Prelude.{◌≡◌, ℕ, ◌+◌, ◌==◌, ◌||◌, Bool, true, false, cond, not, nat_le, nat_lt}
+use Rattle.std.specs.Prelude.{is_some, length, Option, Some, None, Result, Ok, Err}
 use Rattle.std.proofs.Common.{refl}
 use Rattle.kernel_model.specs.declared.Refusal.{Refusal}
-use Rattle.kernel_model.specs.declared.Refusal.TheVariants.{NoProcess, Denied, BadPoint, BadFd, NoFile, BadIndex, NoImage}
+use Rattle.kernel_model.specs.declared.Refusal.TheVariants.{NoProcess, Denied, BadPoint, BadFd}
+use Rattle.kernel_model.specs.declared.Refusal.TheVariants.{NoFile, BadIndex, NoImage}
 use Rattle.kernel_model.specs.declared.SysCall.{SysCall}
-use Rattle.kernel_model.specs.declared.SysCall.TheVariants.{Exit, OpenName, CloseFd, Read, Write, TakeLock, FreeLock, Poke, Peek, Tune, Choose, Give, Install, Remove, Fund, Bill, Serve, StreamRead, StreamWrite}
+use Rattle.kernel_model.specs.declared.SysCall.TheVariants.{Exit, OpenName, CloseFd, Read, Write}
+use Rattle.kernel_model.specs.declared.SysCall.TheVariants.{TakeLock, FreeLock, Poke, Peek, Tune}
+use Rattle.kernel_model.specs.declared.SysCall.TheVariants.{Choose, Give, Install, Remove, Fund}
+use Rattle.kernel_model.specs.declared.SysCall.TheVariants.{Bill, Serve, StreamRead, StreamWrite}
 use Rattle.kernel_model.specs.World.{World, ImageTable, file_named}
 use Rattle.kernel_model.specs.Meaning.{Meaning, Stage}
 use Rattle.kernel_model.specs.Early.{begins_unless, call_refusal, plain_early, policy_count, refused}

@@ -10,7 +10,8 @@ use Rattle.kernel_model.specs.Meaning.{Stage, Piece, stage}
 use Rattle.kernel_model.specs.Policies.{lives, ahead_default}
 use Rattle.kernel_model.specs.Needs.{file_block, ahead_block}
 use Rattle.kernel_model.specs.Pieces.{piece_of}
-use Rattle.kernel_model.specs.FilePieces.{read_piece, read_first_at, read_second, read_third_at, ahead_by, write_piece, sync_from}
+use Rattle.kernel_model.specs.FilePieces.{read_piece, read_first_at, read_second, read_third_at}
+use Rattle.kernel_model.specs.FilePieces.{ahead_by, write_piece, sync_from}
 use Rattle.disk_log.specs.Calls.{Knows, CallsExtend}
 use Rattle.kernel_state.specs.declared.Store.{Store}
 use Rattle.kernel_state.specs.Stores.{world_of_store, objects_of, queue_of, policies_of, SegmentsStay}

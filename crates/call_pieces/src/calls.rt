@@ -24,7 +24,8 @@ pub trait Calls {
     ghost use Rattle.kernel_model.specs.ImageMask.{TellsImages};
     ghost use Rattle.call_pieces.specs.EarlyFaults.{HasNoEarlyFault};
     ghost use Rattle.call_needs.specs.Works.{IsDue, stage_of, stage_granted, answer_seen};
-    ghost use Rattle.call_pieces.specs.Matching.{PieceMatches, PieceMatchesSome, ContinuesFrom, comes_after, is_fault, goes_on};
+    ghost use Rattle.call_pieces.specs.Matching.{PieceMatches, PieceMatchesSome, ContinuesFrom};
+    ghost use Rattle.call_pieces.specs.Matching.{comes_after, is_fault, goes_on};
 
     /// What the calls mean.
     type Meaning: Rules;

@@ -13,7 +13,8 @@ ghost use Rattle.kernel_model.specs.FilePieces.{leaves, open_piece, close_piece,
 ghost use Rattle.kernel_model.specs.Pieces.{spawn_piece, exit_piece, yield_piece, poke_piece};
 ghost use Rattle.kernel_model.specs.Sound.{IsSoundFile};
 ghost use Rattle.disk_log.specs.Calls.{Knows};
-ghost use Rattle.kernel_state.specs.Stores.{world_of_store, objects_of, queue_of, queue_joined, policies_of, SegmentsStay};
+ghost use Rattle.kernel_state.specs.Stores.{world_of_store, objects_of, queue_of, queue_joined};
+ghost use Rattle.kernel_state.specs.Stores.{policies_of, SegmentsStay};
 ghost use Rattle.kernel_state.specs.Places.{HasCell, HasDescriptor};
 ghost use Rattle.call_pieces.specs.Callers.{CanExit, CanYield};
 ghost use Rattle.call_pieces.specs.Shared.{ComesAtOnce, EndsAtOnce, EndsWithQueue};

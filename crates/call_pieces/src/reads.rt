@@ -12,7 +12,8 @@ ghost use Rattle.kernel_model.specs.Sound.{IsSoundFile};
 ghost use Rattle.kernel_state.specs.Places.{HasDescriptor};
 ghost use Rattle.kernel_state.specs.Stores.{world_of_store, objects_of, queue_of, policies_of};
 ghost use Rattle.call_needs.specs.Fetching.{NamesFrame, moment};
-ghost use Rattle.call_pieces.specs.Shared.{AccessReady, ComesAtOnce, Serves, read_stage, read_of, first_of, second_of, later_of};
+ghost use Rattle.call_pieces.specs.Shared.{AccessReady, ComesAtOnce, Serves, read_stage, read_of};
+ghost use Rattle.call_pieces.specs.Shared.{first_of, second_of, later_of};
 ghost use Rattle.call_pieces.specs.Matching.{ReadContinues, goes_on};
 
 use crate::Next;

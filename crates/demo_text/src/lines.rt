@@ -1,6 +1,7 @@
 //! The lines of the generated script, one after another.
 
-ghost use Rattle.std.specs.Prelude.{◌≡◌, ℕ, ◌∷◌, ◌++◌, [], List, length, ◌≤◌, ◌<◌, ◌^◌, true, false, IsTrue, IfOk, OnOk, flat_map};
+ghost use Rattle.std.specs.Prelude.{◌≡◌, ℕ, ◌∷◌, ◌++◌, [], List, length, ◌≤◌, ◌<◌, ◌^◌, true};
+ghost use Rattle.std.specs.Prelude.{false, IsTrue, IfOk, OnOk, flat_map};
 ghost use Rattle.kernel_model.specs.Demo.{demo_keys, demo_lines};
 ghost use Rattle.kernel_model.specs.Images.{sealed_under};
 ghost use Rattle.kernel_model.specs.Text as text;

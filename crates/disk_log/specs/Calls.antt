@@ -1,6 +1,7 @@
 -- What a disk tells, and what a list of its calls says of them: for each call in order whether it
 -- failed.
-use Rattle.std.specs.Prelude.{◌≡◌, ℕ, zero, suc, ◌+◌, ◌-◌, ◌^◌, ◌≤◌, min, Bool, List, [], ◌∷◌, length, option_map, Option, Some, slice_index_or}
+use Rattle.std.specs.Prelude.{◌≡◌, ℕ, zero, suc, ◌+◌, ◌-◌, ◌^◌, ◌≤◌, min, Bool, List, [], ◌∷◌}
+use Rattle.std.specs.Prelude.{length, option_map, Option, Some, slice_index_or}
 use Rattle.std.specs.List.{count_by}
 use Rattle.vino_base.specs.Calls.{Plan, after_call, call_fails}
 use Rattle.vino_base.specs.Disks.{DiskSeen}

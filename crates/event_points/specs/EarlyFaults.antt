@@ -8,7 +8,8 @@ use Rattle.kernel_model.specs.declared.SysCall.TheVariants.{Serve}
 use Rattle.kernel_model.specs.World.{World, ImageTable}
 use Rattle.kernel_model.specs.Early.{begins_unless, call_refusal}
 use Rattle.kernel_model.specs.EventPoints.{PORTS, LAST_EVENT_POINT, event_refusal, is_event_call}
-use Rattle.call_pieces.specs.EarlyFaults.{begins_not_for_disk, is_early_fault, is_for_disk, refusal_not_for_disk, refused_not_for_disk}
+use Rattle.call_pieces.specs.EarlyFaults.{begins_not_for_disk, is_early_fault, is_for_disk}
+use Rattle.call_pieces.specs.EarlyFaults.{refusal_not_for_disk, refused_not_for_disk}
 
 -- a call of this table, or of another
 owned_not_for_disk : (own : Bool) (o : Option Refusal) → is_for_disk o ≡ false →

@@ -18,7 +18,10 @@ use Rattle.kernel_model.specs.Needs.{exclusive, payer_needs}
 use Rattle.kernel_model.specs.Pieces.{new_graft}
 use Rattle.kernel_model.specs.Alike.{AgreeOn, is_needed_exclusively}
 use Rattle.kernel_model.specs.Laws.{FootprintLaws, PieceAlike, IsInRange}
-use Rattle.kernel_model.specs.EventPoints.{point_of_port, handlers_unless, handlers_where, handler_joins, handler_leaves, serves_on, serve_piece, serve_needs, serve_ask, event_needs, event_ask, event_piece, event_points}
+use Rattle.kernel_model.specs.EventPoints.{point_of_port, handlers_unless, handlers_where}
+use Rattle.kernel_model.specs.EventPoints.{handler_joins, handler_leaves, serves_on, serve_piece}
+use Rattle.kernel_model.specs.EventPoints.{serve_needs, serve_ask, event_needs, event_ask}
+use Rattle.kernel_model.specs.EventPoints.{event_piece, event_points}
 use Rattle.kernel_model.specs.Handlers.{handlers_at}
 use Rattle.plain_rules.specs.Changes.{piece_changes}
 use Rattle.plain_rules.specs.FileChanges.{same_self}

@@ -1,6 +1,7 @@
 -- Handlers stay handlers when one joins or leaves, and those at the point of a port are of that
 -- port.
-use Rattle.std.specs.Prelude.{◌≡◌, ℕ, ◌+◌, ◌<◌, ◌≤◌, Bool, true, false, cond, not, ◌&&◌, ◌||◌, ◌==◌, nat_le, List, [], ◌∷◌, ◌++◌, filter, length}
+use Rattle.std.specs.Prelude.{◌≡◌, ℕ, ◌+◌, ◌<◌, ◌≤◌, Bool, true, false, cond, not, ◌&&◌, ◌||◌, ◌==◌}
+use Rattle.std.specs.Prelude.{nat_le, List, [], ◌∷◌, ◌++◌, filter, length}
 use Rattle.std.specs.List.{list_all, list_any}
 use Rattle.std.proofs.Common.{refl, arith, ap, ◌∙◌}
 use Rattle.std.proofs.lemmas.Bool.{or_right}
@@ -8,7 +9,8 @@ use Rattle.std.proofs.lemmas.Bool.Decides.{nat_tests}
 use Rattle.std.proofs.lemmas.List.Elements.{filter-append}
 use Rattle.std.proofs.lemmas.List.{length-append}
 use Rattle.std.proofs.lemmas.List.Folds.{list_all-append}
-use Rattle.kernel_model.specs.Handlers.{is_handler, AreHandlers, handlers_at, handlers_with, handlers_without, has_room, handlers_pass}
+use Rattle.kernel_model.specs.Handlers.{is_handler, AreHandlers, handlers_at, handlers_with}
+use Rattle.kernel_model.specs.Handlers.{handlers_without, has_room, handlers_pass}
 use Rattle.kernel_model.specs.EventPoints.{point_of_port, is_of_port}
 
 -- ---- who stands there

@@ -15,7 +15,9 @@ use Rattle.kernel_model.specs.Charges.{removed}
 use Rattle.kernel_model.specs.Pieces.{new_graft, with_new_graft}
 use Rattle.kernel_model.specs.Sound.{IsSoundStore, ImagesAreLoaded, FitsDisk, HasWholeBlocks}
 use Rattle.kernel_model.specs.Laws.{PieceLaws, is_new_graft, slices_in, continues}
-use Rattle.kernel_model.specs.EventPoints.{is_event_point, with_handlers, handler_joins, handler_leaves, serve_piece, event_piece, event_fits, event_points}
+use Rattle.kernel_model.specs.EventPoints.{is_event_point, with_handlers, handler_joins}
+use Rattle.kernel_model.specs.EventPoints.{handler_leaves, serve_piece, event_piece, event_fits}
+use Rattle.kernel_model.specs.EventPoints.{event_points}
 use Rattle.plain_rules.specs.SoundAccounts.{install_store, remove_store, fund_store, bill_store}
 use Rattle.plain_rules.specs.KeepingGrafts.{images_loaded_by, one_graft_by}
 use Rattle.plain_rules.specs.GrantedCalls.{remove_granted, fund_granted, bill_granted}

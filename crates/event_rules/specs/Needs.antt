@@ -1,5 +1,6 @@
 -- The table of event points meets the laws of the objects that pieces need.
-use Rattle.std.specs.Prelude.{◌≡◌, ℕ, zero, suc, ◌+◌, ◌-◌, ◌≤◌, ◌<◌, Bool, true, false, ◌&&◌, ◌||◌, List, [], ◌∷◌, ◌++◌, length, take, Contains, Option, Some, None}
+use Rattle.std.specs.Prelude.{◌≡◌, ℕ, zero, suc, ◌+◌, ◌-◌, ◌≤◌, ◌<◌, Bool, true, false, ◌&&◌, ◌||◌}
+use Rattle.std.specs.Prelude.{List, [], ◌∷◌, ◌++◌, length, take, Contains, Option, Some, None}
 use Rattle.std.specs.List.{AllByRecursion as Each, list_any}
 use Rattle.std.proofs.Common.{arith, refl, sym, subst, ap, ◌∙◌}
 use Rattle.std.proofs.lemmas.Bool.Decides.{nat_tests}
@@ -19,8 +20,10 @@ use Rattle.kernel_model.specs.Meaning.{Stage}
 use Rattle.kernel_model.specs.Needs.{shared, exclusive, payer_needs, point_needs}
 use Rattle.kernel_model.specs.Events.{wanted}
 use Rattle.kernel_model.specs.Alike.{is_exclusive, is_needed, is_needed_exclusively}
-use Rattle.kernel_model.specs.Laws.{NeedLaws, IsOwnFile, waits_for_user, needs_of_point, before_point, IsStanding, answer_objects}
-use Rattle.kernel_model.specs.EventPoints.{handlers_unless, handlers_where, event_needs, event_ask, event_fits, event_points}
+use Rattle.kernel_model.specs.Laws.{NeedLaws, IsOwnFile, waits_for_user, needs_of_point}
+use Rattle.kernel_model.specs.Laws.{before_point, IsStanding, answer_objects}
+use Rattle.kernel_model.specs.EventPoints.{handlers_unless, handlers_where, event_needs, event_ask}
+use Rattle.kernel_model.specs.EventPoints.{event_fits, event_points}
 use Rattle.plain_rules.specs.NeedParts.{each_contains, each_append, each_of_point}
 use Rattle.plain_rules.specs.NeedOrder.{Follows, follows_next, follows_piece}
 use Rattle.plain_rules.specs.NeedKinds.{piece_few}

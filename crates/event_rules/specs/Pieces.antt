@@ -13,7 +13,8 @@ use Rattle.kernel_model.specs.Meaning.{Stage, Answer, Piece, Fails}
 use Rattle.kernel_model.specs.Pieces.{piece_of, new_graft, install_piece, remove_piece, fund_piece, bill_piece}
 use Rattle.kernel_model.specs.Laws.{continues}
 use Rattle.kernel_model.specs.Handlers.{handlers_at, has_room}
-use Rattle.kernel_model.specs.EventPoints.{point_of_port, handler_joins, handler_leaves, serves_on, answers_with, serve_piece, event_piece}
+use Rattle.kernel_model.specs.EventPoints.{point_of_port, handler_joins, handler_leaves, serves_on}
+use Rattle.kernel_model.specs.EventPoints.{answers_with, serve_piece, event_piece}
 use Rattle.plain_rules.specs.QuickPieces.{is_faulty, quick_piece}
 use Rattle.plain_rules.specs.Refusals.{refused_by}
 use Rattle.event_rules.specs.Granted.{is_serve}

@@ -1,5 +1,6 @@
 -- The table of event points meets the laws of stages: where a call may stand, and for how long.
-use Rattle.std.specs.Prelude.{◌≡◌, ℕ, zero, suc, ◌+◌, ◌<◌, ◌≤◌, Bool, true, false, cond, ◌&&◌, ◌==◌, nat_lt, List, [], ◌∷◌, length, Option, Some, None, Ok}
+use Rattle.std.specs.Prelude.{◌≡◌, ℕ, zero, suc, ◌+◌, ◌<◌, ◌≤◌, Bool, true, false, cond, ◌&&◌, ◌==◌}
+use Rattle.std.specs.Prelude.{nat_lt, List, [], ◌∷◌, length, Option, Some, None, Ok}
 use Rattle.std.specs.List.{list_all}
 use Rattle.std.specs.Result.{is_ok}
 use Rattle.std.proofs.Common.{arith, refl, sym, subst, ap}
@@ -16,7 +17,10 @@ use Rattle.kernel_model.specs.Early.{begins_unless, call_refusal}
 use Rattle.kernel_model.specs.Sound.{IsSoundStore}
 use Rattle.kernel_model.specs.Alike.{Extends}
 use Rattle.kernel_model.specs.Laws.{StageLaws, continues}
-use Rattle.kernel_model.specs.EventPoints.{PORTS, LAST_EVENT_POINT, point_of_port, is_event_call, event_refusal, serves_on, answers_with, event_piece, is_of_port, serve_fits, event_fits, event_left, event_points}
+use Rattle.kernel_model.specs.EventPoints.{PORTS, LAST_EVENT_POINT, point_of_port, is_event_call}
+use Rattle.kernel_model.specs.EventPoints.{event_refusal, serves_on, answers_with, event_piece}
+use Rattle.kernel_model.specs.EventPoints.{is_of_port, serve_fits, event_fits, event_left}
+use Rattle.kernel_model.specs.EventPoints.{event_points}
 use Rattle.plain_rules.specs.Stages.{stages_of_plain}
 use Rattle.event_rules.specs.Granted.{IsBegun, serve_begun, other_own, stage_of, handler_stands}
 use Rattle.event_rules.specs.HandlerLists.{of_port}

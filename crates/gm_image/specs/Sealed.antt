@@ -1,5 +1,6 @@
 -- The parts of a sealed image, and what is said of bytes before flags, key and seal are looked at.
-use Rattle.std.specs.Prelude.{◌≡◌, ◌≤◌, ℕ, zero, suc, ◌+◌, ◌-◌, ◌*◌, List, [], ◌∷◌, length, take, drop, Option, None, Some, Result, Ok, Err}
+use Rattle.std.specs.Prelude.{◌≡◌, ◌≤◌, ℕ, zero, suc, ◌+◌, ◌-◌, ◌*◌, List, [], ◌∷◌, length, take}
+use Rattle.std.specs.Prelude.{drop, Option, None, Some, Result, Ok, Err}
 use Rattle.kernel_model.specs.Bytes.{word_at}
 use Rattle.kernel_model.specs.Images.{LoadFault, head_of, flags_of, number_of, head_fault}
 

@@ -1,6 +1,7 @@
 //! Sealed images: their parts, read. Whether flags, key and seal are right is not looked at here.
 
-ghost use Rattle.std.specs.Prelude.{◌≡◌, ◌≤◌, ◌+◌, ◌-◌, ◌*◌, ◌++◌, ◌==◌, ◌||◌, [], ◌∷◌, cond, length, take, drop, Ok, IfOk, IfErr, IfNone, OnOk};
+ghost use Rattle.std.specs.Prelude.{◌≡◌, ◌≤◌, ◌+◌, ◌-◌, ◌*◌, ◌++◌, ◌==◌, ◌||◌, [], ◌∷◌, cond};
+ghost use Rattle.std.specs.Prelude.{length, take, drop, Ok, IfOk, IfErr, IfNone, OnOk};
 ghost use Rattle.kernel_model.specs.Bytes as model;
 ghost use Rattle.kernel_model.specs.Images as images;
 ghost use Rattle.gm_image.specs.Faults.{Refuses, refusal_of};

@@ -1,5 +1,6 @@
 -- The amounts of one kind: who has how much, who has spent how much, and what the grafts have.
-use Rattle.std.specs.Prelude.{◌≡◌, ℕ, ◌+◌, ◌-◌, ◌<◌, List, length, replicate, sum, slice_index, slice_index_or, slice_set, Option, None}
+use Rattle.std.specs.Prelude.{◌≡◌, ℕ, ◌+◌, ◌-◌, ◌<◌, List, length, replicate, sum, slice_index}
+use Rattle.std.specs.Prelude.{slice_index_or, slice_set, Option, None}
 use Rattle.graft_accounts.specs.declared.rows.Standing.{Standing}
 
 -- the arrays of a kind: by process, and by place of a graft; in all the grant

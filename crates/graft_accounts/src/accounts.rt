@@ -1,6 +1,7 @@
 //! `Accounts`.
 
-ghost use Rattle.std.specs.Prelude.{◌≡◌, ◌↔◌, ◌+◌, ◌*◌, ◌<◌, ◌≤◌, ℕ, None, true, false, replicate, is_some, option_map, nat_le, cond, slice_index, slice_set};
+ghost use Rattle.std.specs.Prelude.{◌≡◌, ◌↔◌, ◌+◌, ◌*◌, ◌<◌, ◌≤◌, ℕ, None, true, false, replicate};
+ghost use Rattle.std.specs.Prelude.{is_some, option_map, nat_le, cond, slice_index, slice_set};
 ghost use Rattle.kernel_model.specs.declared.Kind.{Kind};
 ghost use Rattle.kernel_model.specs.Charges.{charge, charged_steps, removed, funds};
 ghost use Rattle.kernel_model.specs.Levels.{limit_in};
@@ -43,7 +44,10 @@ impl Accounts {
     ghost use Rattle.kernel_model.specs.declared.Kind.TheVariants.{Steps};
     ghost use Rattle.graft_accounts.specs.Points.{place_of};
     ghost use Rattle.graft_accounts.specs.Sums.{Becomes, given, funded_at, paid, paid_at};
-    ghost use Rattle.graft_accounts.specs.Table.{IsTable, Balanced, sums_of, within, standing_at, put_at, taken_out, closed_all, accounts_of, total, row_of, short_of, after_give, after_fund, after_bill};
+    ghost use Rattle.graft_accounts.specs.Table.{IsTable, Balanced, sums_of, within, standing_at};
+    ghost use Rattle.graft_accounts.specs.Table.{put_at, taken_out, closed_all, accounts_of, total};
+    ghost use Rattle.graft_accounts.specs.Table.{row_of, short_of, after_give, after_fund};
+    ghost use Rattle.graft_accounts.specs.Table.{after_bill};
 
     /// Process 0 has the whole grant of each kind. Nothing is spent, and no graft stands.
     pub fn new(grant: u32) -> Accounts

@@ -73,7 +73,8 @@ impl Model for Amounts {
 impl Amounts {
     ghost use Rattle.std.specs.Prelude.{◌*◌, nat_lt, cond, [], ◌∷◌, ◌++◌, Ok, Err};
     ghost use Rattle.graft_accounts.specs.Points.{place_of};
-    ghost use Rattle.graft_accounts.specs.Sums.{IsSums, Becomes, opening, given, funded_at, paid, paid_at, given_back, closed};
+    ghost use Rattle.graft_accounts.specs.Sums.{IsSums, Becomes, opening, given, funded_at, paid};
+    ghost use Rattle.graft_accounts.specs.Sums.{paid_at, given_back, closed};
 
     /// Process 0 has the whole grant.
     pub(crate) fn new(grant: u32) -> Amounts

@@ -1,6 +1,7 @@
 //! The grafts that stand.
 
-ghost use Rattle.std.specs.Prelude.{◌≡◌, ◌<◌, ℕ, Option, None, is_some, length, count_by, replicate, slice_index_or, slice_set, false, cond, ◌↔◌};
+ghost use Rattle.std.specs.Prelude.{◌≡◌, ◌<◌, ℕ, Option, None, is_some, length, count_by};
+ghost use Rattle.std.specs.Prelude.{replicate, slice_index_or, slice_set, false, cond, ◌↔◌};
 
 use crate::amounts::POINTS;
 use std::marker::Model;

@@ -1,10 +1,12 @@
 //! What a plain accessor comes to.
 
-ghost use Rattle.std.specs.Prelude.{◌≡◌, ◌≢◌, ℕ, suc, ◌<◌, ◌≤◌, ◌&&◌, ◌==◌, not, ◌∷◌, List, None, Some, Ok, true, length, slice_index, is_some};
+ghost use Rattle.std.specs.Prelude.{◌≡◌, ◌≢◌, ℕ, suc, ◌<◌, ◌≤◌, ◌&&◌, ◌==◌, not, ◌∷◌, List, None};
+ghost use Rattle.std.specs.Prelude.{Some, Ok, true, length, slice_index, is_some};
 ghost use Rattle.kernel_model.specs.declared.Mode.TheVariants.{Exclusive};
 ghost use Rattle.kernel_model.specs.declared.QueueRow.{QueueRow as Waiting};
 ghost use Rattle.kernel_model.specs.Access.{accessed};
-ghost use Rattle.kernel_model.specs.GraftStep.{after_accessor, after_result, after_change, is_lock_due as lock_due, is_record_spent};
+ghost use Rattle.kernel_model.specs.GraftStep.{after_accessor, after_result, after_change};
+ghost use Rattle.kernel_model.specs.GraftStep.{is_lock_due as lock_due, is_record_spent};
 ghost use Rattle.kernel_model.specs.Laws.{IsInRange};
 ghost use Rattle.kernel_model.specs.Levels.{answered, with_machine};
 ghost use Rattle.kernel_model.specs.Locks.{LockTable as Table, outermost_holding, with_touch};

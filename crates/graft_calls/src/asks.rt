@@ -1,6 +1,7 @@
 //! What the ask of another point comes to.
 
-ghost use Rattle.std.specs.Prelude.{◌≡◌, ◌≢◌, ℕ, suc, ◌<◌, ◌≤◌, ◌∷◌, ◌&&◌, ◌==◌, [], List, None, true, false, length, slice_index, is_some, All};
+ghost use Rattle.std.specs.Prelude.{◌≡◌, ◌≢◌, ℕ, suc, ◌<◌, ◌≤◌, ◌∷◌, ◌&&◌, ◌==◌, [], List, None};
+ghost use Rattle.std.specs.Prelude.{true, false, length, slice_index, is_some, All};
 ghost use Rattle.kernel_model.specs.declared.Mode.TheVariants.{Exclusive, Shared};
 ghost use Rattle.kernel_model.specs.declared.Need.{Need as Needed};
 ghost use Rattle.kernel_model.specs.declared.Object.TheVariants.{Graft};

@@ -1,7 +1,8 @@
 //! Laws of where histories lead.
 
 ghost use Rattle.graft_laws.specs.Points.{HistoriesHoldAnswers};
-ghost use Rattle.graft_laws.specs.Histories.{BeginningsReplay, InstructionsReplay, HistoriesReplay, DropsReplay, HistoriesAlike};
+ghost use Rattle.graft_laws.specs.Histories.{BeginningsReplay, InstructionsReplay, HistoriesReplay};
+ghost use Rattle.graft_laws.specs.Histories.{DropsReplay, HistoriesAlike};
 
 use kernel_model::Rules;
 

@@ -1,6 +1,7 @@
 //! Laws of what keeps abstract kernels sound.
 
-ghost use Rattle.graft_laws.specs.Kernels.{StepsStaySound, DropsStaySound, SettlingStaysSound, EventsStaySound, ImagesStaySound, CallsReplay};
+ghost use Rattle.graft_laws.specs.Kernels.{StepsStaySound, DropsStaySound, SettlingStaysSound};
+ghost use Rattle.graft_laws.specs.Kernels.{EventsStaySound, ImagesStaySound, CallsReplay};
 
 use kernel_model::Rules;
 

@@ -13,7 +13,8 @@ ghost use Rattle.kernel_state.specs.Stores.{world_of_store, objects_of, queue_of
 ghost use Rattle.lock_table.specs.Masks.{held};
 ghost use Rattle.graft_loader.specs.Slots.{table_of};
 ghost use Rattle.graft_levels.specs.Chains.{call_of, levels_in, is_running_in};
-ghost use Rattle.graft_levels.specs.Calls.{AreSound, AreInside, IsPlaced, IsInPlace, IsElsewhereSame, HasWrittenBegun, needs_touched};
+ghost use Rattle.graft_levels.specs.Calls.{AreSound, AreInside, IsPlaced, IsInPlace};
+ghost use Rattle.graft_levels.specs.Calls.{IsElsewhereSame, HasWrittenBegun, needs_touched};
 
 use crate::code::image_of as image_at;
 use crate::filling::{base_of, fill};

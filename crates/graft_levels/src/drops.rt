@@ -12,7 +12,8 @@ ghost use Rattle.kernel_state.specs.Stores.{world_of_store, objects_of, queue_of
 ghost use Rattle.lock_table.specs.Masks.{held};
 ghost use Rattle.undo_calls.specs.UndoLevels.{innermost};
 ghost use Rattle.graft_levels.specs.Chains.{put_back_on, came, call_of, levels_of, outer};
-ghost use Rattle.graft_levels.specs.Calls.{AreSound, AreInside, AreUndoable, AllUndoable, IsPutBack, IsPlaced, IsTaken, IsElsewhereSame};
+ghost use Rattle.graft_levels.specs.Calls.{AreSound, AreInside, AreUndoable, AllUndoable};
+ghost use Rattle.graft_levels.specs.Calls.{IsPutBack, IsPlaced, IsTaken, IsElsewhereSame};
 ghost use Rattle.graft_levels.specs.Moments.{Comes, moment};
 
 use crate::answers::give_answer;

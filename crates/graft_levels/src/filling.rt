@@ -1,6 +1,7 @@
 //! The segments of levels in memory.
 
-ghost use Rattle.std.specs.Prelude.{◌≡◌, ℕ, ◌+◌, ◌*◌, ◌%◌, ◌<◌, ◌≤◌, ◌&&◌, cond, nat_le, nat_lt, List, length, slice_index, ◌⊎◌};
+ghost use Rattle.std.specs.Prelude.{◌≡◌, ℕ, ◌+◌, ◌*◌, ◌%◌, ◌<◌, ◌≤◌, ◌&&◌, cond, nat_le, nat_lt};
+ghost use Rattle.std.specs.Prelude.{List, length, slice_index, ◌⊎◌};
 ghost use Rattle.kernel_model.specs.Levels as model;
 ghost use Rattle.kernel_model.specs.Machine.{fed};
 

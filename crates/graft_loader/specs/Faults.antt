@@ -7,7 +7,10 @@ use Rattle.box_verify.specs.declared.VerifyFault.TheVariants as verify
 use Rattle.gm_image.specs.declared.ImageFault.{ImageFault}
 use Rattle.gm_image.specs.declared.ImageFault.TheVariants as image
 use Rattle.graft_loader.specs.declared.LoadFault.{LoadFault}
-use Rattle.graft_loader.specs.declared.LoadFault.TheVariants.{Length, Magic, Version, TooLarge, BadFlags, NoKey, Seal, BadOp, Register, Jump, Memory, Call, End, NoMemory}
+use Rattle.graft_loader.specs.declared.LoadFault.TheVariants.{Length, Magic, Version, TooLarge}
+use Rattle.graft_loader.specs.declared.LoadFault.TheVariants.{BadFlags, NoKey, Seal, BadOp}
+use Rattle.graft_loader.specs.declared.LoadFault.TheVariants.{Register, Jump, Memory, Call, End}
+use Rattle.graft_loader.specs.declared.LoadFault.TheVariants.{NoMemory}
 
 -- the refusal of the definitions that a fault is; want of memory is none
 abbrev pub refusal_of : LoadFault → Option model.LoadFault

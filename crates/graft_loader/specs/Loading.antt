@@ -1,5 +1,6 @@
 -- Words of the loader's parts, and what a loaded image keeps.
-use Rattle.std.specs.Prelude.{◌≡◌, ◌≤◌, ℕ, suc, ◌==◌, nat_le, true, false, List, [], ◌∷◌, length, Option, None, Some, Result, Ok, Err}
+use Rattle.std.specs.Prelude.{◌≡◌, ◌≤◌, ℕ, suc, ◌==◌, nat_le, true, false, List, [], ◌∷◌, length}
+use Rattle.std.specs.Prelude.{Option, None, Some, Result, Ok, Err}
 use Rattle.std.specs.List.{list_all}
 use Rattle.kernel_model.specs.declared.Instr.{Instr}
 use Rattle.kernel_model.specs.Instructions.{decode, fits}

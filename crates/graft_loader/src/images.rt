@@ -1,6 +1,7 @@
 //! The table of loaded images.
 
-ghost use Rattle.std.specs.Prelude.{◌≡◌, ℕ, ◌<◌, ◌==◌, ◌||◌, length, map, replicate, is_some, Some, None, IfOk, IfSome, option_copied, not};
+ghost use Rattle.std.specs.Prelude.{◌≡◌, ℕ, ◌<◌, ◌==◌, ◌||◌, length, map, replicate, is_some, Some};
+ghost use Rattle.std.specs.Prelude.{None, IfOk, IfSome, option_copied, not};
 ghost use Rattle.kernel_model.specs.ImageMask.{TellsImages, has_bit};
 
 use crate::{Loaded, NoMemory};

@@ -2,7 +2,8 @@
 //! right and whose code is boxed (docs/FORMATS.md).
 #![tactic(auto)]
 
-ghost use Rattle.std.specs.Prelude.{◌≡◌, ◌≤◌, ◌-◌, ◌++◌, [], ◌∷◌, length, true, take, Some, Ok, IfOk, IfErr, OnOk, option_copied};
+ghost use Rattle.std.specs.Prelude.{◌≡◌, ◌≤◌, ◌-◌, ◌++◌, [], ◌∷◌, length, true, take, Some, Ok};
+ghost use Rattle.std.specs.Prelude.{IfOk, IfErr, OnOk, option_copied};
 ghost use Rattle.std.specs.List.{list_all};
 ghost use Rattle.kernel_model.specs.Instructions.{fits};
 ghost use Rattle.kernel_model.specs.Boxed.{IsBoxed, box_fault};

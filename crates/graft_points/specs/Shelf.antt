@@ -1,5 +1,6 @@
 -- What a shelf of policies is to the kernel: a value for each kind of policy.
-use Rattle.std.specs.Prelude.{◌≡◌, ℕ, ◌+◌, ◌<◌, ◌≤◌, Bool, cond, ◌&&◌, nat_lt, List, [], ◌∷◌, length, Option, Some, None, slice_index, slice_index_or, slice_set}
+use Rattle.std.specs.Prelude.{◌≡◌, ℕ, ◌+◌, ◌<◌, ◌≤◌, Bool, cond, ◌&&◌, nat_lt, List, [], ◌∷◌}
+use Rattle.std.specs.Prelude.{length, Option, Some, None, slice_index, slice_index_or, slice_set}
 use Rattle.kernel_model.specs.Objects.{PolValue}
 use Rattle.kernel_model.specs.Early.{policy_count}
 use Rattle.graft_points.specs.Views.{PolicyView, first_code, top_of_code}

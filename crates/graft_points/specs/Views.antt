@@ -1,5 +1,6 @@
 -- What contracts see of a policy, and what it answers.
-use Rattle.std.specs.Prelude.{◌≡◌, ℕ, ◌-◌, max, Bool, true, false, cond, ◌&&◌, ◌==◌, nat_lt, List, All, [], ◌∷◌, Option, option_map, slice_index}
+use Rattle.std.specs.Prelude.{◌≡◌, ℕ, ◌-◌, max, Bool, true, false, cond, ◌&&◌, ◌==◌, nat_lt, List}
+use Rattle.std.specs.Prelude.{All, [], ◌∷◌, Option, option_map, slice_index}
 use Rattle.std.specs.List.{list_any}
 use Rattle.kernel_model.specs.declared.FrameRow.{FrameRow}
 use Rattle.kernel_model.specs.Objects.{PolValue, CacheValue}

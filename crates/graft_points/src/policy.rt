@@ -6,7 +6,8 @@ use crate::ask::Ask;
 pub trait Policy: Drop {
     ghost use Rattle.std.specs.Prelude.{◌≡◌, ◌<◌, true, length, slice_index, slice_set};
     ghost use Rattle.kernel_model.specs.Access.{in_range};
-    ghost use Rattle.graft_points.specs.Views.{PolicyView, kind_of_code, top_of_code, answer_of, asked_kind, has_choice};
+    ghost use Rattle.graft_points.specs.Views.{PolicyView, kind_of_code, top_of_code, answer_of};
+    ghost use Rattle.graft_points.specs.Views.{asked_kind, has_choice};
 
     /// What contracts see of it.
     ghost seen: { Self → PolicyView };

@@ -1,6 +1,7 @@
 //! The policies of a kernel on a shelf: the chosen ones are asked and tuned.
 
-ghost use Rattle.std.specs.Prelude.{◌≡◌, ◌≢◌, ◌<◌, ◌↔◌, ◌==◌, ℕ, true, IsTrue, IfOk, IfErr, map, length, Some, [], ◌∷◌, ◌++◌, slice_index, slice_index_or};
+ghost use Rattle.std.specs.Prelude.{◌≡◌, ◌≢◌, ◌<◌, ◌↔◌, ◌==◌, ℕ, true, IsTrue, IfOk, IfErr, map};
+ghost use Rattle.std.specs.Prelude.{length, Some, [], ◌∷◌, ◌++◌, slice_index, slice_index_or};
 ghost use Rattle.std.specs.List.{list_any};
 ghost use Rattle.kernel_model.specs.declared.FrameRow.{FrameRow as Frame};
 ghost use Rattle.kernel_model.specs.Objects.{CacheValue, at};
@@ -8,8 +9,11 @@ ghost use Rattle.kernel_model.specs.Access.{in_range, param_top, with_param};
 ghost use Rattle.kernel_model.specs.Opening.{opening_policy};
 ghost use Rattle.kernel_model.specs.Policies.{ahead_in, victim_among, next_process, lives};
 ghost use Rattle.kernel_model.specs.RawRows.{shown_param};
-ghost use Rattle.graft_points.specs.Views.{kind_of_code, top_of_code, asked_kind, has_choice, answer_of, answer_by, MarksOf, victim_of};
-ghost use Rattle.graft_points.specs.Shelf.{IsShelf, view_at, code_of, params_of, stock_view, stock_views, retuned, shelf_with, pol_of, first_choice, head_of};
+ghost use Rattle.graft_points.specs.Views.{kind_of_code, top_of_code, asked_kind, has_choice};
+ghost use Rattle.graft_points.specs.Views.{answer_of, answer_by, MarksOf, victim_of};
+ghost use Rattle.graft_points.specs.Shelf.{IsShelf, view_at, code_of, params_of, stock_view};
+ghost use Rattle.graft_points.specs.Shelf.{stock_views, retuned, shelf_with, pol_of, first_choice};
+ghost use Rattle.graft_points.specs.Shelf.{head_of};
 
 use crate::ask::Ask;
 use crate::choice::Choice;

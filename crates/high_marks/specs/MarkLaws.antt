@@ -19,7 +19,9 @@ use Rattle.kernel_model.specs.Alike.{AgreeOn, SameLiving, is_needed_exclusively}
 use Rattle.kernel_model.specs.Early.{TOP_POINT, refused, begins_unless, plain_early}
 use Rattle.kernel_model.specs.Needs.{piece_needs, piece_ask}
 use Rattle.kernel_model.specs.Pieces.{plain, piece_fits, pieces_left}
-use Rattle.kernel_model.specs.Laws.{Laws, NeedLaws, AskLaws, FootprintLaws, PieceLaws, DiskLaws, StageLaws, IsStanding, IsReady, IsRightAnswer, PieceAlike, before_point, continues}
+use Rattle.kernel_model.specs.Laws.{Laws, NeedLaws, AskLaws, FootprintLaws, PieceLaws, DiskLaws}
+use Rattle.kernel_model.specs.Laws.{StageLaws, IsStanding, IsReady, IsRightAnswer, PieceAlike}
+use Rattle.kernel_model.specs.Laws.{before_point, continues}
 use Rattle.plain_rules.specs.PlainLaws.{laws_of_plain}
 use Rattle.high_marks.specs.HighMarks.{as_plain, told_after, told, high_marks}
 

@@ -1,6 +1,8 @@
 -- The rows of a kernel in place, by sections: each has so many places, with some rows at each. And
 -- the rows that are left from a place on.
-use Rattle.std.specs.Prelude.{◌≡◌, ◌<◌, ◌≤◌, ℕ, nat_lt, ◌+◌, ◌-◌, ◌*◌, ◌/◌, ◌%◌, cond, List, [], ◌∷◌, ◌++◌, Option, Some, None, IfSome, drop, filter_map, flat_map, length, slice_get}
+use Rattle.std.specs.Prelude.{◌≡◌, ◌<◌, ◌≤◌, ℕ, nat_lt, ◌+◌, ◌-◌, ◌*◌, ◌/◌, ◌%◌, cond, List, []}
+use Rattle.std.specs.Prelude.{◌∷◌, ◌++◌, Option, Some, None, IfSome, drop, filter_map, flat_map}
+use Rattle.std.specs.Prelude.{length, slice_get}
 use Rattle.std.specs.List.{range_with_len}
 use Rattle.kernel_model.specs.declared.RawRow.{RawRow}
 use Rattle.kernel_model.specs.Objects.{Objects}
@@ -11,7 +13,10 @@ use Rattle.placed_laws.specs.PlacedRows.{placed_call_row, placed_level_rows, pla
 use Rattle.kernel_core.specs.declared.placed_rows.FoundRow.{FoundRow}
 use Rattle.kernel_core.specs.declared.placed_rows.RowPlace.{RowPlace}
 use Rattle.kernel_core.specs.declared.placed_rows.Section.{Section}
-use Rattle.kernel_core.specs.declared.placed_rows.Section.TheVariants.{Clock, Queue, Accounts, Cells, Files, Grafts, Policies, Frames, Locks, Calls, Levels, Undo}
+use Rattle.kernel_core.specs.declared.placed_rows.Section.TheVariants.{Clock, Queue, Accounts}
+use Rattle.kernel_core.specs.declared.placed_rows.Section.TheVariants.{Cells, Files, Grafts}
+use Rattle.kernel_core.specs.declared.placed_rows.Section.TheVariants.{Policies, Frames, Locks}
+use Rattle.kernel_core.specs.declared.placed_rows.Section.TheVariants.{Calls, Levels, Undo}
 
 -- one row, or none
 abbrev pub as_list : {A : Type 0} → Option A → List A

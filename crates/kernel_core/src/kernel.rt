@@ -1,7 +1,8 @@
 //! The kernel: a running kernel over a disk. It is booted, takes events one after another, and
 //! shows what it is.
 
-ghost use Rattle.std.specs.Prelude.{◌≡◌, ◌<◌, ◌≤◌, ◌-◌, ◌^◌, [], map, None, Some, is_some, option_map, slice_get, slice_set, IfOk, IfSome};
+ghost use Rattle.std.specs.Prelude.{◌≡◌, ◌<◌, ◌≤◌, ◌-◌, ◌^◌, [], map, None, Some, is_some};
+ghost use Rattle.std.specs.Prelude.{option_map, slice_get, slice_set, IfOk, IfSome};
 ghost use Rattle.kernel_model.specs.Bare.{event_with};
 ghost use Rattle.kernel_model.specs.Kernel.{Kernel as Abstract};
 ghost use Rattle.kernel_model.specs.Opening.{opening_policy};

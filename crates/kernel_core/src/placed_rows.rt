@@ -5,7 +5,9 @@ ghost use Rattle.placed_laws.specs.Placed.{Placed};
 ghost use Rattle.placed_laws.specs.PlacedRows.{placed_rows};
 ghost use Rattle.running_kernel.specs.Views.{placed_of, IsRunning};
 ghost use Rattle.kernel_core.specs.declared.placed_rows.Section.TheVariants.{Files, Grafts};
-ghost use Rattle.kernel_core.specs.PlacedSections.{most_at, most_left, places, row_found, row_if_found, row_passed, rows_at, rows_left, sections, IsPassed, IsRow, TakesRow};
+ghost use Rattle.kernel_core.specs.PlacedSections.{most_at, most_left, places, row_found};
+ghost use Rattle.kernel_core.specs.PlacedSections.{row_if_found, row_passed, rows_at, rows_left};
+ghost use Rattle.kernel_core.specs.PlacedSections.{sections, IsPassed, IsRow, TakesRow};
 
 use call_pieces::Calls;
 use graft_points::Policy;

@@ -11,7 +11,8 @@ use Rattle.kernel_model.specs.declared.Cause.{Cause}
 use Rattle.kernel_model.specs.GraftStep.{micro}
 use Rattle.kernel_model.specs.History.{Mark, Trace, replay}
 use Rattle.kernel_model.specs.Opening.{opening_objects, opening_things, opening_kernel}
-use Rattle.kernel_model.specs.Sound.{IsSoundWorld, IsSoundStore, IsSoundState, FitsDisk, ImagesAreLoaded, HasWholeBlocks, IsSoundConfig, IsSoundKernel}
+use Rattle.kernel_model.specs.Sound.{IsSoundWorld, IsSoundStore, IsSoundState, FitsDisk}
+use Rattle.kernel_model.specs.Sound.{ImagesAreLoaded, HasWholeBlocks, IsSoundConfig, IsSoundKernel}
 use Rattle.kernel_model.specs.Alike.{AreAlike}
 use Rattle.kernel_model.specs.Laws.{IsReady}
 

@@ -4,7 +4,8 @@ use Rattle.kernel_model.specs.declared.Object.{Object}
 use Rattle.kernel_model.specs.declared.Mode.TheVariants.{Exclusive}
 use Rattle.kernel_model.specs.declared.QueueRow.{QueueRow}
 use Rattle.kernel_model.specs.Objects.{Things, SameThing}
-use Rattle.kernel_model.specs.Access.{Access, Gives, Changes, Refuses, access, accessed, needed, Found, bare_found, undo, object_of_inverse, changed_by}
+use Rattle.kernel_model.specs.Access.{Access, Gives, Changes, Refuses, access, accessed, needed}
+use Rattle.kernel_model.specs.Access.{Found, bare_found, undo, object_of_inverse, changed_by}
 use Rattle.kernel_model.specs.UndoLog.{undo_all}
 use Rattle.kernel_model.specs.Sound.{count_of, in_queue}
 

@@ -2,7 +2,9 @@
 
 ghost use Rattle.kernel_model.specs.Claims.{ChangesWhatIsHeld, ConfigsStaySound, EffectsStaySound, MoreImages};
 ghost use Rattle.kernel_model.specs.Laws.{RefusalsChangeNothing};
-ghost use Rattle.kernel_laws.specs.Soundness.{OpeningIsSound, OpeningKernelIsSound, PiecesStaySound, InstructionsWork, HistoriesWork, DropsStaySound};
+ghost use Rattle.kernel_laws.specs.Soundness.{OpeningIsSound, OpeningKernelIsSound};
+ghost use Rattle.kernel_laws.specs.Soundness.{PiecesStaySound, InstructionsWork, HistoriesWork};
+ghost use Rattle.kernel_laws.specs.Soundness.{DropsStaySound};
 
 use kernel_model::Rules;
 

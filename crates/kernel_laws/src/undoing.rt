@@ -1,6 +1,7 @@
 //! Laws of what accessors change.
 
-ghost use Rattle.kernel_laws.specs.Undoing.{InversesCommute, InversesUndo, InversesChangeOneObject, ChangesAreOfOneObject, RecordsLeadBack};
+ghost use Rattle.kernel_laws.specs.Undoing.{InversesCommute, InversesUndo, InversesChangeOneObject};
+ghost use Rattle.kernel_laws.specs.Undoing.{ChangesAreOfOneObject, RecordsLeadBack};
 
 /// Inverses of distinct objects commute.
 pub fn inverses_commute()

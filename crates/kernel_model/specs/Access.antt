@@ -1,6 +1,7 @@
 -- The callable list: the objects that a call needs, when it is refused, what it does, and what
 -- undoes it.
-use Rattle.std.specs.Prelude.{ℕ, Bool, true, false, cond, not, ◌&&◌, ◌||◌, ◌==◌, nat_lt, nat_le, List, [], ◌∷◌, Option, Some, None, length, slice_get, map, option_map}
+use Rattle.std.specs.Prelude.{ℕ, Bool, true, false, cond, not, ◌&&◌, ◌||◌, ◌==◌, nat_lt, nat_le}
+use Rattle.std.specs.Prelude.{List, [], ◌∷◌, Option, Some, None, length, slice_get, map, option_map}
 use Rattle.kernel_model.specs.declared.Object.{Object}
 use Rattle.kernel_model.specs.declared.Object.TheVariants.{Graft, Cell, OpenFile, Queue, Cache, Lock, Pol}
 use Rattle.kernel_model.specs.declared.Mode.{Mode}

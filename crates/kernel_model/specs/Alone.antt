@@ -1,7 +1,9 @@
 -- A call that is alone in flight runs to its end at its own event, by any number of pieces. These
 -- laws hold for every table of calls; the crate `kernel_laws` has a function for each of the three
 -- statements.
-use Rattle.std.specs.Prelude.{◌≡◌, ℕ, zero, suc, ◌≤◌, ◌==◌, Bool, true, false, not, ◌&&◌, List, [], ◌∷◌, ◌++◌, Option, Some, None, is_some, length, ◌<◌, Contains, Ok, ⊤, refl}
+use Rattle.std.specs.Prelude.{◌≡◌, ℕ, zero, suc, ◌≤◌, ◌==◌, Bool, true, false, not, ◌&&◌, List, []}
+use Rattle.std.specs.Prelude.{◌∷◌, ◌++◌, Option, Some, None, is_some, length, ◌<◌, Contains, Ok, ⊤}
+use Rattle.std.specs.Prelude.{refl}
 use Rattle.std.specs.Result.{is_ok}
 use Rattle.std.specs.List.{list_all}
 use Rattle.std.proofs.Common.{arith, sym, subst, ap, ◌∙◌, inl, inr}
@@ -23,7 +25,9 @@ use Rattle.kernel_model.specs.Locks.{user_of}
 use Rattle.kernel_model.specs.declared.Object.{Object}
 use Rattle.kernel_model.specs.Settle.{settle}
 use Rattle.kernel_model.specs.Events.{event, last, last_note}
-use Rattle.kernel_model.specs.Quiet.{quiet, at_rest, begins_alone, goes_alone, left_by, is_others, is_unhindered, HasNoGraft, settle_alone, settle_rests, granted_alone, both_hold}
+use Rattle.kernel_model.specs.Quiet.{quiet, at_rest, begins_alone, goes_alone, left_by, is_others}
+use Rattle.kernel_model.specs.Quiet.{is_unhindered, HasNoGraft, settle_alone, settle_rests}
+use Rattle.kernel_model.specs.Quiet.{granted_alone, both_hold}
 use Rattle.kernel_model.specs.Sound.{IsSoundStore, FitsDisk, HasWholeBlocks}
 use Rattle.kernel_model.specs.Laws.{Laws, IsReady, continues, is_new_graft, waits_for_user}
 

@@ -1,9 +1,14 @@
 -- The assembler: the text of graft code, in both directions. Why a line is refused (`AsmKind`) is
 -- declared in the crate's code.
-use Rattle.std.specs.Prelude.{ℕ, suc, ◌+◌, ◌-◌, ◌==◌, Bool, true, false, cond, ◌&&◌, ◌||◌, nat_lt, nat_le, List, [], ◌∷◌, ◌++◌, length, take, slice_get, slice_index, position, flat_map, codes, decimal, Option, None, Some, Result, Ok, Err}
+use Rattle.std.specs.Prelude.{ℕ, suc, ◌+◌, ◌-◌, ◌==◌, Bool, true, false, cond, ◌&&◌, ◌||◌, nat_lt}
+use Rattle.std.specs.Prelude.{nat_le, List, [], ◌∷◌, ◌++◌, length, take, slice_get, slice_index}
+use Rattle.std.specs.Prelude.{position, flat_map, codes, decimal, Option, None, Some, Result, Ok}
+use Rattle.std.specs.Prelude.{Err}
 use Rattle.std.specs.List.{list_all, list_any, slice_split}
 use Rattle.kernel_model.specs.declared.AsmKind.{AsmKind}
-use Rattle.kernel_model.specs.declared.AsmKind.TheVariants.{UnknownMnemonic, BadOperands, LabelNotSet, LabelSetTwice, TooManyInstructions, BadData}
+use Rattle.kernel_model.specs.declared.AsmKind.TheVariants.{UnknownMnemonic, BadOperands}
+use Rattle.kernel_model.specs.declared.AsmKind.TheVariants.{LabelNotSet, LabelSetTwice}
+use Rattle.kernel_model.specs.declared.AsmKind.TheVariants.{TooManyInstructions, BadData}
 use Rattle.kernel_model.specs.declared.Instr.{Instr}
 use Rattle.kernel_model.specs.declared.Op.{Op}
 use Rattle.kernel_model.specs.declared.Op.TheVariants.{Jmp, Jz, Jnz, Call}

@@ -1,6 +1,7 @@
 -- What follows from the histories: the levels of each call, what they hold, what each call's next
 -- step needs, and who blocks it.
-use Rattle.std.specs.Prelude.{ℕ, Bool, true, false, cond, ◌&&◌, ◌==◌, List, [], Option, Some, None, map, option_map, slice_index_or}
+use Rattle.std.specs.Prelude.{ℕ, Bool, true, false, cond, ◌&&◌, ◌==◌, List, [], Option, Some, None}
+use Rattle.std.specs.Prelude.{map, option_map, slice_index_or}
 use Rattle.kernel_model.specs.declared.Need.{Need}
 use Rattle.kernel_model.specs.Objects.{same_object}
 use Rattle.kernel_model.specs.World.{processes}

@@ -1,6 +1,8 @@
 -- Numbers, hexadecimal digits and names as bytes. Everything that is read or written stands on
 -- these.
-use Rattle.std.specs.Prelude.{ℕ, ◌+◌, ◌-◌, ◌*◌, ◌/◌, ◌%◌, ◌^◌, ◌==◌, Bool, cond, ◌&&◌, ◌||◌, nat_lt, nat_le, List, [], ◌∷◌, length, flat_map, fold, slice_index, Option, None, Some, codes}
+use Rattle.std.specs.Prelude.{ℕ, ◌+◌, ◌-◌, ◌*◌, ◌/◌, ◌%◌, ◌^◌, ◌==◌, Bool, cond, ◌&&◌, ◌||◌, nat_lt}
+use Rattle.std.specs.Prelude.{nat_le, List, [], ◌∷◌, length, flat_map, fold, slice_index, Option}
+use Rattle.std.specs.Prelude.{None, Some, codes}
 use Rattle.std.specs.List.{list_all}
 
 -- the four bytes of a word, the lowest first

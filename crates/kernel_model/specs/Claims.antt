@@ -1,6 +1,7 @@
 -- Statements of what these definitions mean, in the subject's own words. Each stands here as a
 -- statement; docs/PROMISES.md says which are proved, and where.
-use Rattle.std.specs.Prelude.{◌≡◌, ◌≢◌, ℕ, suc, ◌+◌, ◌*◌, ◌<◌, ◌≤◌, true, false, List, [], Contains, Option, Some, None, is_some, Ok, ⊤, ◌⊎◌}
+use Rattle.std.specs.Prelude.{◌≡◌, ◌≢◌, ℕ, suc, ◌+◌, ◌*◌, ◌<◌, ◌≤◌, true, false, List, [], Contains}
+use Rattle.std.specs.Prelude.{Option, Some, None, is_some, Ok, ⊤, ◌⊎◌}
 use Rattle.kernel_model.specs.declared.Instr.{Instr}
 use Rattle.kernel_model.specs.declared.Object.{Object}
 use Rattle.kernel_model.specs.declared.Cause.{Cause}
@@ -21,7 +22,8 @@ use Rattle.kernel_model.specs.Blocking.{config_in, config_of, levels_of, blocker
 use Rattle.kernel_model.specs.Settle.{step, settled}
 use Rattle.kernel_model.specs.Events.{expired, tick_event, drop_call}
 use Rattle.kernel_model.specs.InPlace.{Cut, is_changed_in, in_place, undone, store_below}
-use Rattle.kernel_model.specs.Sound.{ledger, ImagesAreLoaded, IsSoundStore, IsSoundConfig, IsSoundKernel, IsAtRest, HasWholeBlocks, count_of}
+use Rattle.kernel_model.specs.Sound.{ledger, ImagesAreLoaded, IsSoundStore, IsSoundConfig}
+use Rattle.kernel_model.specs.Sound.{IsSoundKernel, IsAtRest, HasWholeBlocks, count_of}
 use Rattle.kernel_model.specs.Alike.{ConfigsAlike, Extends}
 use Rattle.kernel_model.specs.Laws.{Laws}
 

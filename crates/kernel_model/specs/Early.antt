@@ -1,10 +1,15 @@
 -- Which system calls are refused at once, before they join the order: refusals that need no object,
 -- the least number first.
-use Rattle.std.specs.Prelude.{ℕ, ◌+◌, ◌==◌, Bool, cond, not, ◌||◌, nat_le, nat_lt, length, is_some, Option, Some, None, Result, Ok, Err}
+use Rattle.std.specs.Prelude.{ℕ, ◌+◌, ◌==◌, Bool, cond, not, ◌||◌, nat_le, nat_lt, length, is_some}
+use Rattle.std.specs.Prelude.{Option, Some, None, Result, Ok, Err}
 use Rattle.kernel_model.specs.declared.SysCall.{SysCall}
-use Rattle.kernel_model.specs.declared.SysCall.TheVariants.{Exit, OpenName, CloseFd, Read, Write, TakeLock, FreeLock, Poke, Peek, Tune, Choose, Give, Install, Remove, Fund, Bill, Serve, StreamRead, StreamWrite}
+use Rattle.kernel_model.specs.declared.SysCall.TheVariants.{Exit, OpenName, CloseFd, Read, Write}
+use Rattle.kernel_model.specs.declared.SysCall.TheVariants.{TakeLock, FreeLock, Poke, Peek, Tune}
+use Rattle.kernel_model.specs.declared.SysCall.TheVariants.{Choose, Give, Install, Remove, Fund}
+use Rattle.kernel_model.specs.declared.SysCall.TheVariants.{Bill, Serve, StreamRead, StreamWrite}
 use Rattle.kernel_model.specs.declared.Refusal.{Refusal}
-use Rattle.kernel_model.specs.declared.Refusal.TheVariants.{NoProcess, Denied, BadPoint, BadFd, NoFile, BadIndex, NoImage}
+use Rattle.kernel_model.specs.declared.Refusal.TheVariants.{NoProcess, Denied, BadPoint, BadFd}
+use Rattle.kernel_model.specs.declared.Refusal.TheVariants.{NoFile, BadIndex, NoImage}
 use Rattle.kernel_model.specs.World.{World, ImageTable, file_named}
 use Rattle.kernel_model.specs.Meaning.{Stage, stage}
 

@@ -1,6 +1,7 @@
 -- How a block comes into a frame of the cache, and what is done with its frame then. A fetch makes
 -- at most two calls of the disk: it reads the block, and writes what the evicted frame held.
-use Rattle.std.specs.Prelude.{ℕ, ◌+◌, ◌==◌, Bool, true, false, cond, not, List, [], ◌∷◌, ◌++◌, Option, Some, None, map, filter, length, slice_index, take, drop}
+use Rattle.std.specs.Prelude.{ℕ, ◌+◌, ◌==◌, Bool, true, false, cond, not, List, [], ◌∷◌, ◌++◌}
+use Rattle.std.specs.Prelude.{Option, Some, None, map, filter, length, slice_index, take, drop}
 use Rattle.kernel_model.specs.World.{World, Blocks}
 use Rattle.kernel_model.specs.Objects.{CacheValue, PolValue, FrameValue, at}
 use Rattle.kernel_model.specs.Policies.{or_zero, victim_among}

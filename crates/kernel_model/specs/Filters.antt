@@ -1,6 +1,7 @@
 -- What `box`, `check`, `reseal`, `asm`, `dis` and `lang` write about their input, and with which
 -- status they end.
-use Rattle.std.specs.Prelude.{◌≡◌, ℕ, ◌==◌, Bool, true, false, List, [], ◌∷◌, ◌++◌, codes, Option, None, Some, Result, Ok, Err}
+use Rattle.std.specs.Prelude.{◌≡◌, ℕ, ◌==◌, Bool, true, false, List, [], ◌∷◌, ◌++◌, codes, Option}
+use Rattle.std.specs.Prelude.{None, Some, Result, Ok, Err}
 use Rattle.kernel_model.specs.declared.Instr.{Instr}
 use Rattle.kernel_model.specs.Bytes.{hex_text, hex_word}
 use Rattle.kernel_model.specs.World.{Image}
@@ -8,12 +9,17 @@ use Rattle.kernel_model.specs.Boxed.{RewriteFault, NamesReserved, JumpsOut, Call
 use Rattle.kernel_model.specs.declared.Keys.{Keys}
 use Rattle.kernel_model.specs.Images.{LoadFault, raw_image, sealed_under, read_raw, load, reseal}
 use Rattle.kernel_model.specs.declared.AsmKind.{AsmKind}
-use Rattle.kernel_model.specs.declared.AsmKind.TheVariants.{UnknownMnemonic, BadOperands, LabelNotSet, LabelSetTwice, TooManyInstructions, BadData}
+use Rattle.kernel_model.specs.declared.AsmKind.TheVariants.{UnknownMnemonic, BadOperands}
+use Rattle.kernel_model.specs.declared.AsmKind.TheVariants.{LabelNotSet, LabelSetTwice}
+use Rattle.kernel_model.specs.declared.AsmKind.TheVariants.{TooManyInstructions, BadData}
 use Rattle.kernel_model.specs.Assembler.{LineFault, assemble, disassemble}
 use Rattle.kernel_model.specs.Text.{spaced, line, load_fault_text, image_text}
 use Rattle.kernel_model.specs.Outcome.{Ending, End, Fault, Over}
 use Rattle.kernel_model.specs.declared.language.LangKind.{LangKind}
-use Rattle.kernel_model.specs.declared.language.LangKind.TheVariants.{NoToken, NoProgram, UnknownVariable, WrongArguments, TooDeep, TooManyTokens}
+use Rattle.kernel_model.specs.declared.language.LangKind.TheVariants.{NoToken, NoProgram}
+use Rattle.kernel_model.specs.declared.language.LangKind.TheVariants.{UnknownVariable}
+use Rattle.kernel_model.specs.declared.language.LangKind.TheVariants.{WrongArguments, TooDeep}
+use Rattle.kernel_model.specs.declared.language.LangKind.TheVariants.{TooManyTokens}
 use Rattle.kernel_model.specs.LanguageReading.{Syntax, read}
 use Rattle.kernel_model.specs.LanguageReading as language
 use Rattle.kernel_model.specs.LanguageImages.{IsCompiled}

@@ -1,7 +1,8 @@
 -- A call in a graft is kept as a history of marks, and run again from the committed state whenever
 -- it is asked for. A level that was dropped on the way stands in the history as one mark, with what
 -- its levels did that outlives them. So nothing that read an object since let go is ever run again.
-use Rattle.std.specs.Prelude.{ℕ, suc, Bool, true, false, cond, ◌&&◌, ◌==◌, not, nat_le, List, [], ◌∷◌, ◌++◌, Option, Some, None, is_some, length, take, reverse}
+use Rattle.std.specs.Prelude.{ℕ, suc, Bool, true, false, cond, ◌&&◌, ◌==◌, not, nat_le, List, []}
+use Rattle.std.specs.Prelude.{◌∷◌, ◌++◌, Option, Some, None, is_some, length, take, reverse}
 use Rattle.kernel_model.specs.declared.Need.{Need}
 use Rattle.kernel_model.specs.declared.Point.{Point}
 use Rattle.kernel_model.specs.declared.Object.TheVariants.{Graft}
@@ -11,7 +12,9 @@ use Rattle.kernel_model.specs.Policies.{default_of}
 use Rattle.kernel_model.specs.Locks.{touch_all, untouched, is_held}
 use Rattle.kernel_model.specs.Charges.{funds, charge, removed}
 use Rattle.kernel_model.specs.Meaning.{Meaning, Stage}
-use Rattle.kernel_model.specs.Levels.{Level, Config, Effect, Asked, Charged, Removed, Outcome, is_going_on, new_level, touch_outermost, outermost_touched, answer_innermost}
+use Rattle.kernel_model.specs.Levels.{Level, Config, Effect, Asked, Charged, Removed, Outcome}
+use Rattle.kernel_model.specs.Levels.{is_going_on, new_level, touch_outermost, outermost_touched}
+use Rattle.kernel_model.specs.Levels.{answer_innermost}
 use Rattle.kernel_model.specs.GraftStep.{micro}
 
 -- ---- histories

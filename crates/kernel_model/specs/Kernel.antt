@@ -1,7 +1,8 @@
 -- The abstract kernel's whole state: what is committed, for each process its call in flight, and
 -- the order of waiting. It has no lock table, no registers and no undo log: those follow from the
 -- histories.
-use Rattle.std.specs.Prelude.{ℕ, Bool, true, false, cond, not, ◌==◌, List, [], ◌∷◌, ◌++◌, Option, Some, None, filter, drop}
+use Rattle.std.specs.Prelude.{ℕ, Bool, true, false, cond, not, ◌==◌, List, [], ◌∷◌, ◌++◌, Option}
+use Rattle.std.specs.Prelude.{Some, None, filter, drop}
 use Rattle.kernel_model.specs.declared.Object.{Object}
 use Rattle.kernel_model.specs.declared.Note.{Note}
 use Rattle.kernel_model.specs.declared.Note.TheVariants.{Ended, Refused, Gave}

@@ -1,7 +1,9 @@
 -- What has to hold of the meaning of every kernel's calls. The trait `Rules` of the crate's code
 -- asks for a proof of these with each table of calls; whatever is proved of the kernel for every
 -- table may use nothing else of the table.
-use Rattle.std.specs.Prelude.{◌≡◌, ℕ, suc, ◌+◌, ◌-◌, ◌<◌, ◌≤◌, ◌^◌, Bool, true, false, not, ◌&&◌, ◌==◌, List, [], ◌∷◌, ◌++◌, length, take, map, sum, nat_le, ◌≢◌, Contains, Option, Some, None, is_some, Ok, slice_index, ⊤}
+use Rattle.std.specs.Prelude.{◌≡◌, ℕ, suc, ◌+◌, ◌-◌, ◌<◌, ◌≤◌, ◌^◌, Bool, true, false, not, ◌&&◌}
+use Rattle.std.specs.Prelude.{◌==◌, List, [], ◌∷◌, ◌++◌, length, take, map, sum, nat_le, ◌≢◌}
+use Rattle.std.specs.Prelude.{Contains, Option, Some, None, is_some, Ok, slice_index, ⊤}
 use Rattle.std.specs.List.{list_any, AllByRecursion}
 use Rattle.std.specs.Result.{is_ok}
 use Rattle.kernel_model.specs.declared.Need.{Need}
@@ -16,11 +18,13 @@ use Rattle.kernel_model.specs.declared.QueueRow.{QueueRow}
 use Rattle.kernel_model.specs.World.{World, ImageTable, Blocks}
 use Rattle.kernel_model.specs.Objects.{Objects, SameAt}
 use Rattle.kernel_model.specs.Policies.{PointKind, Ahead, Victim, Next, Serve, Stream, kind_of, lives}
-use Rattle.kernel_model.specs.Meaning.{Meaning, Stage, Answer, HasWholeBody, registers_of, Piece, After, Continues, Fails}
+use Rattle.kernel_model.specs.Meaning.{Meaning, Stage, Answer, HasWholeBody, registers_of, Piece}
+use Rattle.kernel_model.specs.Meaning.{After, Continues, Fails}
 use Rattle.kernel_model.specs.Needs.{point_needs}
 use Rattle.kernel_model.specs.Sound.{IsSoundStore, ImagesAreLoaded, FitsDisk, HasWholeBlocks}
 use Rattle.kernel_model.specs.Events.{wanted}
-use Rattle.kernel_model.specs.Alike.{AgreeOn, SameLiving, SameFiles, AreAlike, Extends, is_needed, is_needed_exclusively}
+use Rattle.kernel_model.specs.Alike.{AgreeOn, SameLiving, SameFiles, AreAlike, Extends, is_needed}
+use Rattle.kernel_model.specs.Alike.{is_needed_exclusively}
 
 -- ---- words of the laws
 

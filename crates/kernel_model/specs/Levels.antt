@@ -1,6 +1,7 @@
 -- A graft call is a working state and one to four levels, innermost first. This says how a level
 -- begins, how its answer goes to its asker, and how it is dropped.
-use Rattle.std.specs.Prelude.{ℕ, ◌+◌, ◌*◌, min, Bool, true, false, ◌==◌, List, [], ◌∷◌, Option, Some, None, length, slice_get, slice_index}
+use Rattle.std.specs.Prelude.{ℕ, ◌+◌, ◌*◌, min, Bool, true, false, ◌==◌, List, [], ◌∷◌, Option}
+use Rattle.std.specs.Prelude.{Some, None, length, slice_get, slice_index}
 use Rattle.kernel_model.specs.declared.Object.{Object}
 use Rattle.kernel_model.specs.declared.Mode.{Mode}
 use Rattle.kernel_model.specs.declared.Kind.{Kind}

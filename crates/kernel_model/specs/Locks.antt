@@ -1,7 +1,8 @@
 -- How a level holds objects, and the table of what each level of each call holds. A hold is free,
 -- shared or exclusive; touching, merging and letting go change the table at one place. A step is
 -- hindered by another call's hold, or by a user lock.
-use Rattle.std.specs.Prelude.{ℕ, ◌-◌, ◌==◌, Bool, true, false, cond, not, ◌&&◌, nat_le, List, [], ◌∷◌, Option, Some, None, find, is_some}
+use Rattle.std.specs.Prelude.{ℕ, ◌-◌, ◌==◌, Bool, true, false, cond, not, ◌&&◌, nat_le, List, []}
+use Rattle.std.specs.Prelude.{◌∷◌, Option, Some, None, find, is_some}
 use Rattle.kernel_model.specs.declared.Object.{Object}
 use Rattle.kernel_model.specs.declared.Object.TheVariants.{Lock}
 use Rattle.kernel_model.specs.declared.Mode.{Mode}

@@ -1,6 +1,7 @@
 -- What a table of system calls is to the kernel: seven functions. The kernel is defined over any such
 -- table, so later calls are a new table and not a new kernel.
-use Rattle.std.specs.Prelude.{◌≡◌, ℕ, min, Bool, false, List, [], length, Option, None, Some, option_map, Result, slice_index, slice_index_or, ⊤}
+use Rattle.std.specs.Prelude.{◌≡◌, ℕ, min, Bool, false, List, [], length, Option, None, Some}
+use Rattle.std.specs.Prelude.{option_map, Result, slice_index, slice_index_or, ⊤}
 use Rattle.kernel_model.specs.declared.Need.{Need}
 use Rattle.kernel_model.specs.declared.Point.{Point}
 use Rattle.kernel_model.specs.declared.SysCall.{SysCall}

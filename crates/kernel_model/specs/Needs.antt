@@ -1,7 +1,9 @@
 -- For each piece of each call the objects that it needs, in order, and the point that it asks.
 -- Which object comes next depends on the earlier ones alone; a list ends with the object that shows
 -- a refusal.
-use Rattle.std.specs.Prelude.{ℕ, zero, suc, ◌+◌, ◌*◌, ◌==◌, Bool, true, false, cond, ◌&&◌, nat_le, nat_lt, List, [], ◌∷◌, ◌++◌, Option, Some, None, map, length, Result, Ok, Err}
+use Rattle.std.specs.Prelude.{ℕ, zero, suc, ◌+◌, ◌*◌, ◌==◌, Bool, true, false, cond, ◌&&◌, nat_le}
+use Rattle.std.specs.Prelude.{nat_lt, List, [], ◌∷◌, ◌++◌, Option, Some, None, map, length, Result}
+use Rattle.std.specs.Prelude.{Ok, Err}
 use Rattle.std.specs.List.{range_with_len}
 use Rattle.kernel_model.specs.declared.Need.{Need}
 use Rattle.kernel_model.specs.declared.Point.{Point}
@@ -10,7 +12,11 @@ use Rattle.kernel_model.specs.declared.Object.TheVariants.{Graft, Acct, OpenFile
 use Rattle.kernel_model.specs.declared.Mode.TheVariants.{Shared, Exclusive}
 use Rattle.kernel_model.specs.declared.Kind.{Kind}
 use Rattle.kernel_model.specs.declared.SysCall.{SysCall}
-use Rattle.kernel_model.specs.declared.SysCall.TheVariants.{Spawn, Exit, Yield, OpenName, CloseFd, Read, Write, Sync, TakeLock, FreeLock, Poke, Peek, Tune, Choose, Give, Install, Remove, Fund, Bill, Serve, StreamRead, StreamWrite}
+use Rattle.kernel_model.specs.declared.SysCall.TheVariants.{Spawn, Exit, Yield, OpenName, CloseFd}
+use Rattle.kernel_model.specs.declared.SysCall.TheVariants.{Read, Write, Sync, TakeLock, FreeLock}
+use Rattle.kernel_model.specs.declared.SysCall.TheVariants.{Poke, Peek, Tune, Choose, Give, Install}
+use Rattle.kernel_model.specs.declared.SysCall.TheVariants.{Remove, Fund, Bill, Serve, StreamRead}
+use Rattle.kernel_model.specs.declared.SysCall.TheVariants.{StreamWrite}
 use Rattle.kernel_model.specs.declared.Refusal.{Refusal}
 use Rattle.kernel_model.specs.declared.Refusal.TheVariants.{BadFd, BadIndex}
 use Rattle.kernel_model.specs.declared.OpenRow.{OpenRow}
@@ -18,7 +24,8 @@ use Rattle.kernel_model.specs.declared.FileRow.{FileRow}
 use Rattle.kernel_model.specs.declared.QueueRow.{QueueRow}
 use Rattle.kernel_model.specs.World.{World, file_row, block_of}
 use Rattle.kernel_model.specs.Objects.{Objects, Things, Accounts, CacheValue, PolValue, GraftValue}
-use Rattle.kernel_model.specs.Policies.{lives, next_process, or_zero, args_by, Next, Ahead, victim_among, frame_owner, frames_of}
+use Rattle.kernel_model.specs.Policies.{lives, next_process, or_zero, args_by, Next, Ahead}
+use Rattle.kernel_model.specs.Policies.{victim_among, frame_owner, frames_of}
 use Rattle.kernel_model.specs.Access.{needed}
 
 -- ---- what the lists are made of

@@ -1,5 +1,6 @@
 -- What a whole run writes, and with which status it ends.
-use Rattle.std.specs.Prelude.{◌≡◌, ℕ, suc, ◌<◌, Bool, true, false, cond, ◌||◌, ◌==◌, List, [], ◌∷◌, ◌++◌, length, take, Option, None, Some, flat_map}
+use Rattle.std.specs.Prelude.{◌≡◌, ℕ, suc, ◌<◌, Bool, true, false, cond, ◌||◌, ◌==◌, List, [], ◌∷◌}
+use Rattle.std.specs.Prelude.{◌++◌, length, take, Option, None, Some, flat_map}
 use Rattle.std.specs.List.{concat}
 use Rattle.kernel_model.specs.World.{Blocks, processes}
 use Rattle.kernel_model.specs.Directory.{Disk}

@@ -1,16 +1,24 @@
 -- What each piece of each system call does, in one step (those of the calls on files stand in
 -- `FilePieces`); and the meaning of the whole table of calls.
-use Rattle.std.specs.Prelude.{ℕ, zero, suc, ◌+◌, ◌-◌, ◌==◌, Bool, true, false, cond, not, ◌&&◌, nat_le, nat_lt, List, [], ◌∷◌, ◌++◌, Option, Some, None, map, filter, length}
+use Rattle.std.specs.Prelude.{ℕ, zero, suc, ◌+◌, ◌-◌, ◌==◌, Bool, true, false, cond, not, ◌&&◌}
+use Rattle.std.specs.Prelude.{nat_le, nat_lt, List, [], ◌∷◌, ◌++◌, Option, Some, None, map, filter}
+use Rattle.std.specs.Prelude.{length}
 use Rattle.kernel_model.specs.declared.Kind.{Kind}
 use Rattle.kernel_model.specs.declared.SysCall.{SysCall}
-use Rattle.kernel_model.specs.declared.SysCall.TheVariants.{Spawn, Exit, Yield, OpenName, CloseFd, Read, Write, Sync, TakeLock, FreeLock, Poke, Peek, Tune, Choose, Give, Install, Remove, Fund, Bill, Serve, StreamRead, StreamWrite}
+use Rattle.kernel_model.specs.declared.SysCall.TheVariants.{Spawn, Exit, Yield, OpenName, CloseFd}
+use Rattle.kernel_model.specs.declared.SysCall.TheVariants.{Read, Write, Sync, TakeLock, FreeLock}
+use Rattle.kernel_model.specs.declared.SysCall.TheVariants.{Poke, Peek, Tune, Choose, Give, Install}
+use Rattle.kernel_model.specs.declared.SysCall.TheVariants.{Remove, Fund, Bill, Serve, StreamRead}
+use Rattle.kernel_model.specs.declared.SysCall.TheVariants.{StreamWrite}
 use Rattle.kernel_model.specs.declared.Refusal.{Refusal}
-use Rattle.kernel_model.specs.declared.Refusal.TheVariants.{NoProcess, BadPoint, BadIndex, Taken, NoGraft, Short, Full, NotHeld}
+use Rattle.kernel_model.specs.declared.Refusal.TheVariants.{NoProcess, BadPoint, BadIndex, Taken}
+use Rattle.kernel_model.specs.declared.Refusal.TheVariants.{NoGraft, Short, Full, NotHeld}
 use Rattle.kernel_model.specs.declared.Reply.TheVariants.{One}
 use Rattle.kernel_model.specs.declared.QueueRow.{QueueRow}
 use Rattle.kernel_model.specs.declared.OpenRow.{OpenRow}
 use Rattle.kernel_model.specs.World.{World, Blocks, file_named}
-use Rattle.kernel_model.specs.Objects.{Objects, Accounts, Things, GraftValue, AcctValue, FrameValue, at, at2, at_kind, with_accounts, with_things}
+use Rattle.kernel_model.specs.Objects.{Objects, Accounts, Things, GraftValue, AcctValue, FrameValue}
+use Rattle.kernel_model.specs.Objects.{at, at2, at_kind, with_accounts, with_things}
 use Rattle.kernel_model.specs.Policies.{lives, next_process, or_zero}
 use Rattle.kernel_model.specs.Queue.{one_more_slice}
 use Rattle.kernel_model.specs.Handlers.{handlers_without_process}
@@ -20,7 +28,8 @@ use Rattle.kernel_model.specs.Meaning.{Meaning, Piece, Continues, EndsWith, stag
 use Rattle.kernel_model.specs.Early.{TOP_POINT, plain_early}
 use Rattle.kernel_model.specs.Needs.{piece_needs, piece_ask, free_process, file_block}
 use Rattle.kernel_model.specs.Fetch.{chosen_by}
-use Rattle.kernel_model.specs.FilePieces.{leaves, refuses, well, free_descriptor, open_piece, close_piece, read_piece, write_piece, sync_from}
+use Rattle.kernel_model.specs.FilePieces.{leaves, refuses, well, free_descriptor, open_piece}
+use Rattle.kernel_model.specs.FilePieces.{close_piece, read_piece, write_piece, sync_from}
 
 -- ---- processes
 

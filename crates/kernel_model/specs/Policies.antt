@@ -1,6 +1,7 @@
 -- The stock policies, the candidate and the default answer of each point, the arguments that a
 -- point is asked with, and which answers are valid.
-use Rattle.std.specs.Prelude.{ℕ, ◌+◌, ◌-◌, min, max, Bool, false, cond, ◌&&◌, ◌==◌, nat_lt, nat_le, List, [], ◌∷◌, Option, Some, None, filter, length, slice_index}
+use Rattle.std.specs.Prelude.{ℕ, ◌+◌, ◌-◌, min, max, Bool, false, cond, ◌&&◌, ◌==◌, nat_lt, nat_le}
+use Rattle.std.specs.Prelude.{List, [], ◌∷◌, Option, Some, None, filter, length, slice_index}
 use Rattle.std.specs.List.{list_any}
 use Rattle.kernel_model.specs.declared.QueueRow.{QueueRow}
 use Rattle.kernel_model.specs.declared.OpenRow.{OpenRow}

@@ -3,7 +3,9 @@
 -- need, a call runs at its own event, piece after piece, and afterwards no call is in flight again.
 -- It is proved here for calls that end with their first or their second piece, and in `Alone` for
 -- calls of any number of pieces.
-use Rattle.std.specs.Prelude.{◌≡◌, ℕ, zero, suc, ◌==◌, Bool, true, false, cond, not, ◌&&◌, List, [], ◌∷◌, ◌++◌, Option, Some, None, map, drop, find, slice_index_or, option_map, refl, Result, Ok, Err}
+use Rattle.std.specs.Prelude.{◌≡◌, ℕ, zero, suc, ◌==◌, Bool, true, false, cond, not, ◌&&◌, List, []}
+use Rattle.std.specs.Prelude.{◌∷◌, ◌++◌, Option, Some, None, map, drop, find, slice_index_or}
+use Rattle.std.specs.Prelude.{option_map, refl, Result, Ok, Err}
 use Rattle.std.specs.List.{list_all}
 use Rattle.std.proofs.Common.{sym, ap, ◌∙◌}
 use mathlib.Core.Path.{fun_ext}
@@ -22,9 +24,11 @@ use Rattle.kernel_model.specs.Events.{event, sys_event, begun, last}
 use Rattle.kernel_model.specs.Objects.{Objects, at}
 use Rattle.kernel_model.specs.World.{World, ImageTable, Blocks, processes}
 use Rattle.kernel_model.specs.Meaning.{Meaning, Stage, Piece, After, Continues, EndsWith, Fails}
-use Rattle.kernel_model.specs.Locks.{Hindrance, hinders, lowest_holder, first_hindrance, hindrance_by, user_hindrance, user_of}
+use Rattle.kernel_model.specs.Locks.{Hindrance, hinders, lowest_holder, first_hindrance}
+use Rattle.kernel_model.specs.Locks.{hindrance_by, user_hindrance, user_of}
 use Rattle.kernel_model.specs.Levels.{Level, touched_at}
-use Rattle.kernel_model.specs.Kernel.{Kernel, Call, Entry, Run, new_entry, less_entry, is_at_piece, call_after, gave_note, after_note, finish, requeue, noted}
+use Rattle.kernel_model.specs.Kernel.{Kernel, Call, Entry, Run, new_entry, less_entry, is_at_piece}
+use Rattle.kernel_model.specs.Kernel.{call_after, gave_note, after_note, finish, requeue, noted}
 use Rattle.kernel_model.specs.Blocking.{levels_in, config_in, trace_of, levels_of, holds, needs_in, blocker_from}
 use Rattle.kernel_model.specs.GraftStep.{lock_user}
 use Rattle.kernel_model.specs.declared.Note.{Note}

@@ -1,5 +1,6 @@
 -- The rows that `raw` writes: they show a kernel's whole state, changes in flight included.
-use Rattle.std.specs.Prelude.{ℕ, suc, ◌==◌, List, [], ◌∷◌, ◌++◌, Option, None, Some, map, filter, filter_map, flat_map, length, reverse, find, option_map}
+use Rattle.std.specs.Prelude.{ℕ, suc, ◌==◌, List, [], ◌∷◌, ◌++◌, Option, None, Some, map, filter}
+use Rattle.std.specs.Prelude.{filter_map, flat_map, length, reverse, find, option_map}
 use Rattle.std.specs.List.{range_with_len}
 use Rattle.kernel_model.specs.declared.RawRow.{RawRow}
 use Rattle.kernel_model.specs.declared.WaitRow.{WaitRow}

@@ -1,5 +1,6 @@
 -- How a script runs, line by line: what each line makes of the session, and what it writes.
-use Rattle.std.specs.Prelude.{ℕ, suc, Bool, true, false, nat_lt, List, [], ◌∷◌, ◌++◌, drop, is_some, Option, None, Some, Result, Ok, Err, codes, decimal}
+use Rattle.std.specs.Prelude.{ℕ, suc, Bool, true, false, nat_lt, List, [], ◌∷◌, ◌++◌, drop, is_some}
+use Rattle.std.specs.Prelude.{Option, None, Some, Result, Ok, Err, codes, decimal}
 use Rattle.kernel_model.specs.declared.TheConstants.{LAST_CALLABLE}
 use Rattle.kernel_model.specs.declared.FileRow.{FileRow}
 use Rattle.kernel_model.specs.declared.Note.{Note}
@@ -15,7 +16,8 @@ use Rattle.kernel_model.specs.AllCalls.{all_calls}
 use Rattle.kernel_model.specs.Opening.{opening_kernel}
 use Rattle.kernel_model.specs.RawRows.{raw_rows}
 use Rattle.kernel_model.specs.Text.{spaced, line, note_lines, row_lines, load_fault_text, image_text, boot_text}
-use Rattle.kernel_model.specs.Script.{Entry, Blank, Frames, Patience, Grant, Boot, Happens, Loads, Raw, ScriptFault, fault_number, parsed_line}
+use Rattle.kernel_model.specs.Script.{Entry, Blank, Frames, Patience, Grant, Boot, Happens, Loads}
+use Rattle.kernel_model.specs.Script.{Raw, ScriptFault, fault_number, parsed_line}
 
 -- ---- what is run
 

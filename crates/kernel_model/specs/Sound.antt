@@ -1,6 +1,8 @@
 -- Which states, graft calls and abstract kernels are sound, and which kernels rest. Soundness of a
 -- state is in three parts: the store by itself, the images of its grafts, and the disk below it.
-use Rattle.std.specs.Prelude.{◌≡◌, ◌≢◌, ℕ, zero, suc, ◌+◌, ◌<◌, ◌≤◌, Bool, true, false, cond, ◌==◌, ◌&&◌, nat_lt, List, [], ◌∷◌, Option, Some, None, is_some, map, length, Contains, ⊤}
+use Rattle.std.specs.Prelude.{◌≡◌, ◌≢◌, ℕ, zero, suc, ◌+◌, ◌<◌, ◌≤◌, Bool, true, false, cond, ◌==◌}
+use Rattle.std.specs.Prelude.{◌&&◌, nat_lt, List, [], ◌∷◌, Option, Some, None, is_some, map, length}
+use Rattle.std.specs.Prelude.{Contains, ⊤}
 use Rattle.std.specs.List.{list_any}
 use Rattle.std.specs.Result.{is_ok}
 use Rattle.kernel_model.specs.declared.Object.{Object}

@@ -1,12 +1,15 @@
 -- The table of stream points. The graft at point 14 of a process changes what its stream reads
 -- give, and the one at point 15 what its stream writes put. `sread` and `swrite`, and `install`,
 -- `remove`, `fund` and `bill` at these points, are calls of this table. docs/CALLS.md tells them.
-use Rattle.std.specs.Prelude.{ℕ, zero, suc, ◌+◌, ◌-◌, Bool, true, false, cond, ◌&&◌, ◌||◌, ◌==◌, nat_le, nat_lt, List, [], ◌∷◌, length, slice_range, Option, Some, None, Result, Ok, Err}
+use Rattle.std.specs.Prelude.{ℕ, zero, suc, ◌+◌, ◌-◌, Bool, true, false, cond, ◌&&◌, ◌||◌, ◌==◌}
+use Rattle.std.specs.Prelude.{nat_le, nat_lt, List, [], ◌∷◌, length, slice_range, Option, Some}
+use Rattle.std.specs.Prelude.{None, Result, Ok, Err}
 use Rattle.kernel_model.specs.declared.Need.{Need}
 use Rattle.kernel_model.specs.declared.Point.{Point}
 use Rattle.kernel_model.specs.declared.Object.TheVariants.{OpenFile}
 use Rattle.kernel_model.specs.declared.SysCall.{SysCall}
-use Rattle.kernel_model.specs.declared.SysCall.TheVariants.{Read, Write, Install, Remove, Fund, Bill, StreamRead, StreamWrite}
+use Rattle.kernel_model.specs.declared.SysCall.TheVariants.{Read, Write, Install, Remove, Fund}
+use Rattle.kernel_model.specs.declared.SysCall.TheVariants.{Bill, StreamRead, StreamWrite}
 use Rattle.kernel_model.specs.declared.Refusal.{Refusal}
 use Rattle.kernel_model.specs.declared.Refusal.TheVariants.{BadPoint}
 use Rattle.kernel_model.specs.World.{World, ImageTable, Blocks}

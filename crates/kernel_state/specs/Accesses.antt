@@ -1,10 +1,12 @@
 -- What the accessors of grafts do to a store, and which of their changes can be undone on it.
-use Rattle.std.specs.Prelude.{◌≡◌, ℕ, ◌<◌, ◌≤◌, true, List, Some, None, Result, Ok, Err, IfOk, IfSome, is_some, slice_index}
+use Rattle.std.specs.Prelude.{◌≡◌, ℕ, ◌<◌, ◌≤◌, true, List, Some, None, Result, Ok, Err, IfOk}
+use Rattle.std.specs.Prelude.{IfSome, is_some, slice_index}
 use Rattle.kernel_model.specs.declared.Inverse.{Inverse}
 use Rattle.kernel_model.specs.declared.Inverse.TheVariants.{Cell, Nice, Window, Mark, Tune, Segment}
 use Rattle.kernel_model.specs.declared.Cause.{Cause}
 use Rattle.kernel_model.specs.declared.QueueRow.{QueueRow}
-use Rattle.kernel_model.specs.Access.{Access as Accessed, access, Gives, Changes, Refuses, early_refusal, in_range, param_top}
+use Rattle.kernel_model.specs.Access.{Access as Accessed, access, Gives, Changes, Refuses}
+use Rattle.kernel_model.specs.Access.{early_refusal, in_range, param_top}
 use Rattle.kernel_model.specs.Objects.{Things}
 use Rattle.kernel_model.specs.Policies.{lives}
 use Rattle.graft_points.specs.Views.{PolicyView}

@@ -1,10 +1,12 @@
 //! The cache of a store, with the bytes of its frames.
 
-ghost use Rattle.std.specs.Prelude.{◌≡◌, ℕ, ◌+◌, ◌*◌, ◌<◌, ◌≤◌, true, false, length, Some, None, IfSome, IfNone, slice_range, option_map, map, filter_map};
+ghost use Rattle.std.specs.Prelude.{◌≡◌, ℕ, ◌+◌, ◌*◌, ◌<◌, ◌≤◌, true, false, length, Some, None};
+ghost use Rattle.std.specs.Prelude.{IfSome, IfNone, slice_range, option_map, map, filter_map};
 ghost use Rattle.kernel_model.specs.Objects.{FrameValue};
 ghost use Rattle.kernel_model.specs.Needs.{frame_of_block, free_frame, owner_asked};
 ghost use Rattle.kernel_model.specs.Policies.{lives, victim_among};
-ghost use Rattle.kernel_model.specs.Fetch.{used, filled, new_frame, replaced, with_patch, cleaned, bytes_of, dirty_value};
+ghost use Rattle.kernel_model.specs.Fetch.{used, filled, new_frame, replaced, with_patch, cleaned};
+ghost use Rattle.kernel_model.specs.Fetch.{bytes_of, dirty_value};
 ghost use Rattle.kernel_model.specs.FilePieces.{with_cache};
 ghost use Rattle.kernel_model.specs.RawRows.{frame_row_of};
 ghost use Rattle.kernel_model.specs.declared.FrameRow.{FrameRow as Row};

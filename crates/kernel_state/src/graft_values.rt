@@ -1,7 +1,8 @@
 //! Values of a store that only grafts look at and change: nices, windows, marks, and the frames of
 //! one process.
 
-ghost use Rattle.std.specs.Prelude.{◌≡◌, ◌<◌, ◌≤◌, true, Some, [], length, nat_le, map, is_some, slice_get, IfSome, IfNone};
+ghost use Rattle.std.specs.Prelude.{◌≡◌, ◌<◌, ◌≤◌, true, Some, [], length, nat_le, map, is_some};
+ghost use Rattle.std.specs.Prelude.{slice_get, IfSome, IfNone};
 ghost use Rattle.std.specs.List.{list_all};
 ghost use Rattle.kernel_model.specs.declared.FrameRow.{FrameRow as Row};
 ghost use Rattle.kernel_model.specs.declared.QueueRow.{QueueRow as Waiting};

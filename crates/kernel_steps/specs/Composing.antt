@@ -1,5 +1,6 @@
 -- How changes of an event under way follow each other.
-use Rattle.std.proofs.Common.{append-nil, arith, cond, ◌≡◌, ℕ, ◌+◌, ◌≤◌, Bool, List, [], ◌++◌, Option, ap, sym, subst, ◌∙◌, refl}
+use Rattle.std.proofs.Common.{append-nil, arith, cond, ◌≡◌, ℕ, ◌+◌, ◌≤◌, Bool, List, [], ◌++◌}
+use Rattle.std.proofs.Common.{Option, ap, sym, subst, ◌∙◌, refl}
 use Rattle.std.proofs.lemmas.List.{append_assoc}
 use Rattle.std.proofs.lemmas.List.Sums.{sum_by-append}
 use Rattle.kernel_model.specs.declared.Note.{Note}

@@ -1,7 +1,9 @@
 //! The laws of codes: each is found by its own text, and by what is printed of each refusal and each
 //! cause of the kernel.
 
-ghost use Rattle.lab_codes.specs.Printed.{CodesAreFound, LinesAreFound, CallsAreFound, DropsAreFound, ImagesAreFound, AssemblerIsFound, LanguageIsFound, RewriterIsFound};
+ghost use Rattle.lab_codes.specs.Printed.{CodesAreFound, LinesAreFound, CallsAreFound};
+ghost use Rattle.lab_codes.specs.Printed.{DropsAreFound, ImagesAreFound, AssemblerIsFound};
+ghost use Rattle.lab_codes.specs.Printed.{LanguageIsFound, RewriterIsFound};
 
 /// Each code is found by its own text.
 pub fn codes_are_found()

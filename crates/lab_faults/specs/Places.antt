@@ -1,5 +1,7 @@
 -- Where the lines of a text, and the words and columns of a line are.
-use Rattle.std.specs.Prelude.{ℕ, zero, suc, ◌+◌, ◌-◌, ◌==◌, Bool, not, ◌||◌, cond, nat_lt, min, List, [], length, take, slice_index, slice_index_or, slice_range, count_by, bit_and, Option, None, Some}
+use Rattle.std.specs.Prelude.{ℕ, zero, suc, ◌+◌, ◌-◌, ◌==◌, Bool, not, ◌||◌, cond, nat_lt, min}
+use Rattle.std.specs.Prelude.{List, [], length, take, slice_index, slice_index_or, slice_range}
+use Rattle.std.specs.Prelude.{count_by, bit_and, Option, None, Some}
 use Rattle.std.specs.List.{position_or_len, slice_split}
 use Rattle.lab_faults.specs.declared.spans.Span.{Span}
 

@@ -1,5 +1,7 @@
 -- The forms of the lines that are written, as the words at their places.
-use Rattle.std.specs.Prelude.{ℕ, Bool, true, false, ◌&&◌, nat_le, List, [], ◌∷◌, ◌++◌, length, Option, Some, None, is_some, find, position, codes, slice_index_or, ◌==◌}
+use Rattle.std.specs.Prelude.{ℕ, Bool, true, false, ◌&&◌, nat_le, List, [], ◌∷◌, ◌++◌, length}
+use Rattle.std.specs.Prelude.{Option, Some, None, is_some, find, position, codes, slice_index_or}
+use Rattle.std.specs.Prelude.{◌==◌}
 use Rattle.std.specs.List.{list_all, slice_split}
 use Rattle.kernel_model.specs.Bytes.{is_digit, hex_value}
 use Rattle.kernel_model.specs.World.{same_bytes}

@@ -1,5 +1,7 @@
 -- Instructions in words: the lines that wrote them, and their texts.
-use Rattle.std.specs.Prelude.{ℕ, ◌+◌, ◌-◌, ◌^◌, ◌==◌, ◌&&◌, Bool, true, false, not, cond, min, nat_lt, List, [], ◌∷◌, ◌++◌, length, codes, Option, None, Some, is_some, filter, slice_get, slice_index}
+use Rattle.std.specs.Prelude.{ℕ, ◌+◌, ◌-◌, ◌^◌, ◌==◌, ◌&&◌, Bool, true, false, not, cond, min}
+use Rattle.std.specs.Prelude.{nat_lt, List, [], ◌∷◌, ◌++◌, length, codes, Option, None, Some}
+use Rattle.std.specs.Prelude.{is_some, filter, slice_get, slice_index}
 use Rattle.std.specs.List.{slice_split, zip}
 use Rattle.std.specs.Option.{option_map_or}
 use Rattle.kernel_model.specs.declared.Instr.{Instr}

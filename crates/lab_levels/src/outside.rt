@@ -1,6 +1,7 @@
 //! Memory: the segment of a level, and what is outside it before and after its instructions.
 
-ghost use Rattle.std.specs.Prelude.{◌≡◌, ◌≤◌, ◌+◌, ◌%◌, ◌==◌, ◌&&◌, ◌++◌, cond, false, length, take, drop, slice_range, OnOk};
+ghost use Rattle.std.specs.Prelude.{◌≡◌, ◌≤◌, ◌+◌, ◌%◌, ◌==◌, ◌&&◌, ◌++◌, cond, false, length};
+ghost use Rattle.std.specs.Prelude.{take, drop, slice_range, OnOk};
 ghost use Rattle.lab_levels.specs.Outside as spec;
 ghost use Rattle.lab_levels.specs.Places as places;
 

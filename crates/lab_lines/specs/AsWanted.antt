@@ -1,5 +1,6 @@
 -- When each line of a script wrote what is wanted of it.
-use Rattle.std.specs.Prelude.{◌≡◌, ◌≤◌, ℕ, ◌==◌, ⊤, Bool, true, false, not, ◌||◌, nat_lt, List, [], ◌∷◌, map, filter, length, codes}
+use Rattle.std.specs.Prelude.{◌≡◌, ◌≤◌, ℕ, ◌==◌, ⊤, Bool, true, false, not, ◌||◌, nat_lt, List, []}
+use Rattle.std.specs.Prelude.{◌∷◌, map, filter, length, codes}
 use Rattle.std.specs.Cmp.Lexicographic.{pointwise}
 use Rattle.std.specs.List.{list_any, starts_with}
 use Rattle.lab_sheet.specs.declared.sheet.Want.{Want}

@@ -1,5 +1,7 @@
 -- How what a run wrote is told: the kernel's lines as they are, and lines of `lab` by their marks.
-use Rattle.std.specs.Prelude.{◌≡◌, ℕ, ◌-◌, ◌==◌, ◌&&◌, Bool, not, cond, nat_lt, List, [], ◌∷◌, ◌++◌, length, slice_index, filter, flat_map, codes, decimal, Option, None, Some, is_some, All, ⊤}
+use Rattle.std.specs.Prelude.{◌≡◌, ℕ, ◌-◌, ◌==◌, ◌&&◌, Bool, not, cond, nat_lt, List, [], ◌∷◌, ◌++◌}
+use Rattle.std.specs.Prelude.{length, slice_index, filter, flat_map, codes, decimal, Option, None}
+use Rattle.std.specs.Prelude.{Some, is_some, All, ⊤}
 use Rattle.std.specs.List.{slice_split, list_any}
 use Rattle.lab_forms.specs.Forms.{form_of, is_told}
 use Rattle.lab_lines.specs.declared.pieces.Piece.{Piece}

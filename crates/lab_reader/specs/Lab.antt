@@ -1,5 +1,6 @@
 -- A whole lab file, read line by line.
-use Rattle.std.specs.Prelude.{ℕ, suc, ◌-◌, ◌==◌, Bool, true, false, cond, not, List, [], ◌∷◌, ◌++◌, length, take, slice_index, codes, Result, Ok, Err}
+use Rattle.std.specs.Prelude.{ℕ, suc, ◌-◌, ◌==◌, Bool, true, false, cond, not, List, [], ◌∷◌, ◌++◌}
+use Rattle.std.specs.Prelude.{length, take, slice_index, codes, Result, Ok, Err}
 use Rattle.std.specs.List.{list_any}
 use Rattle.kernel_model.specs.World.{same_bytes}
 use Rattle.kernel_model.specs.Assembler.{is_empty, is_passed_over, lines_of}

@@ -1,5 +1,6 @@
 -- The settings of a lab file: its keys and its disk.
-use Rattle.std.specs.Prelude.{ℕ, Bool, true, false, cond, ◌||◌, is_some, List, [], ◌∷◌, replicate, codes, Option, None, Some, Result, Ok, Err}
+use Rattle.std.specs.Prelude.{ℕ, Bool, true, false, cond, ◌||◌, is_some, List, [], ◌∷◌, replicate}
+use Rattle.std.specs.Prelude.{codes, Option, None, Some, Result, Ok, Err}
 use Rattle.filters.specs.Keys.{keys_of}
 use Rattle.kernel_model.specs.declared.Keys.{Keys}
 use Rattle.kernel_model.specs.World.{same_bytes}

@@ -1,5 +1,6 @@
 -- The grafts that a lab file writes: their texts as the assembler and the compiler read them.
-use Rattle.std.specs.Prelude.{ℕ, ◌==◌, Bool, true, false, cond, ◌&&◌, not, is_some, List, [], ◌∷◌, ◌++◌, map, position, codes, Option, None, Some, Result, Ok, Err}
+use Rattle.std.specs.Prelude.{ℕ, ◌==◌, Bool, true, false, cond, ◌&&◌, not, is_some, List, [], ◌∷◌}
+use Rattle.std.specs.Prelude.{◌++◌, map, position, codes, Option, None, Some, Result, Ok, Err}
 use Rattle.std.specs.List.{slice_split}
 use Rattle.kernel_model.specs.World.{same_bytes}
 use Rattle.kernel_model.specs.Assembler.{is_empty, is_label}

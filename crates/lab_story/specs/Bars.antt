@@ -1,5 +1,6 @@
 -- Where bars end.
-use Rattle.std.specs.Prelude.{ℕ, ◌==◌, ◌&&◌, Bool, true, false, not, cond, nat_le, nat_lt, List, [], ◌∷◌, length, Option, option_map, find, slice_index_or}
+use Rattle.std.specs.Prelude.{ℕ, ◌==◌, ◌&&◌, Bool, true, false, not, cond, nat_le, nat_lt, List, []}
+use Rattle.std.specs.Prelude.{◌∷◌, length, Option, option_map, find, slice_index_or}
 use Rattle.std.specs.List.{list_any}
 use Rattle.std.specs.Option.{option_map_or}
 use Rattle.kernel_model.specs.World.{same_bytes}

@@ -1,5 +1,6 @@
 -- Numbers among the words of a line.
-use Rattle.std.specs.Prelude.{ℕ, zero, suc, ◌+◌, length, take, drop, position, List, [], slice_index_or, unwrap_or, ◌==◌}
+use Rattle.std.specs.Prelude.{ℕ, zero, suc, ◌+◌, length, take, drop, position, List, []}
+use Rattle.std.specs.Prelude.{slice_index_or, unwrap_or, ◌==◌}
 use Rattle.std.specs.List.{slice_split}
 use Rattle.std.specs.Option.{option_map_or}
 use Rattle.kernel_model.specs.Bytes.{number_of}

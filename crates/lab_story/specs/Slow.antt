@@ -1,5 +1,6 @@
 -- A script slowly: rows before each event, and steps one by one.
-use Rattle.std.specs.Prelude.{ℕ, zero, suc, ◌==◌, cond, nat_le, List, [], ◌∷◌, ◌++◌, Option, None, Some, codes, slice_index_or}
+use Rattle.std.specs.Prelude.{ℕ, zero, suc, ◌==◌, cond, nat_le, List, [], ◌∷◌, ◌++◌, Option, None}
+use Rattle.std.specs.Prelude.{Some, codes, slice_index_or}
 use Rattle.std.specs.List.{slice_split}
 use Rattle.kernel_model.specs.Bytes.{number_of}
 use Rattle.kernel_model.specs.World.{same_bytes}

@@ -1,5 +1,6 @@
 -- What a strip shows, and by which class a bar is drawn.
-use Rattle.std.specs.Prelude.{ℕ, zero, suc, ◌+◌, ◌-◌, ◌^◌, ◌==◌, ◌&&◌, Bool, false, cond, min, max, nat_le, List, [], ◌∷◌, codes, count_by, slice_get}
+use Rattle.std.specs.Prelude.{ℕ, zero, suc, ◌+◌, ◌-◌, ◌^◌, ◌==◌, ◌&&◌, Bool, false, cond, min, max}
+use Rattle.std.specs.Prelude.{nat_le, List, [], ◌∷◌, codes, count_by, slice_get}
 use Rattle.std.specs.List.{list_any}
 use Rattle.std.specs.Option.{option_map_or}
 use Rattle.lab_story.specs.declared.story.Bar.{Bar}

@@ -1,6 +1,8 @@
 -- From what a lab file says to the script that is run: its grafts become images, and each of its
 -- lines becomes a line of the script.
-use Rattle.std.specs.Prelude.{◌≡◌, ◌≤◌, ◌<◌, ◌⊎◌, ℕ, suc, ◌-◌, ⊤, Bool, true, false, cond, nat_lt, List, [], ◌∷◌, ◌++◌, length, slice_index_or, decimal, codes, slice_get, Option, None, Some, Result, Ok, Err}
+use Rattle.std.specs.Prelude.{◌≡◌, ◌≤◌, ◌<◌, ◌⊎◌, ℕ, suc, ◌-◌, ⊤, Bool, true, false, cond, nat_lt}
+use Rattle.std.specs.Prelude.{List, [], ◌∷◌, ◌++◌, length, slice_index_or, decimal, codes}
+use Rattle.std.specs.Prelude.{slice_get, Option, None, Some, Result, Ok, Err}
 use Rattle.kernel_model.specs.declared.Instr.{Instr}
 use Rattle.kernel_model.specs.declared.Keys.{Keys}
 use Rattle.kernel_model.specs.Bytes.{hex_text}

@@ -1,5 +1,7 @@
 -- The words of a line of a lab file.
-use Rattle.std.specs.Prelude.{ℕ, ◌+◌, ◌*◌, ◌%◌, ◌==◌, Bool, true, false, cond, not, ◌||◌, nat_lt, is_some, List, [], ◌∷◌, ◌++◌, length, map, take, drop, decimal, codes, Option, None, Some}
+use Rattle.std.specs.Prelude.{ℕ, ◌+◌, ◌*◌, ◌%◌, ◌==◌, Bool, true, false, cond, not, ◌||◌, nat_lt}
+use Rattle.std.specs.Prelude.{is_some, List, [], ◌∷◌, ◌++◌, length, map, take, drop, decimal, codes}
+use Rattle.std.specs.Prelude.{Option, None, Some}
 use Rattle.std.specs.List.{list_all, slice_split}
 use Rattle.kernel_model.specs.Script.{IMAGE_DIGITS}
 use Rattle.kernel_model.specs.Bytes.{hex_value, number_of}

@@ -1,5 +1,7 @@
 -- What the kernel wrote, with lines of the watcher between its parts.
-use Rattle.std.specs.Prelude.{◌≡◌, ℕ, ◌==◌, ◌-◌, min, max, Bool, true, ◌||◌, List, [], ◌∷◌, ◌++◌, length, cond, nat_lt, map, codes, drop, flat_map, All, slice_index, slice_range}
+use Rattle.std.specs.Prelude.{◌≡◌, ℕ, ◌==◌, ◌-◌, min, max, Bool, true, ◌||◌, List, [], ◌∷◌, ◌++◌}
+use Rattle.std.specs.Prelude.{length, cond, nat_lt, map, codes, drop, flat_map, All, slice_index}
+use Rattle.std.specs.Prelude.{slice_range}
 use Rattle.lab_weave.specs.Lines.{Own}
 
 -- a byte of a line of the watcher: `?` for what would end the line, and for what isn't seen

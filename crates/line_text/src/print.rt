@@ -2,7 +2,8 @@
 
 ghost use Rattle.std.specs.Prelude.{◌≡◌, ◌≤◌, ◌<◌, ◌+◌, [], ◌++◌, length};
 ghost use Rattle.kernel_model.specs.Bare.{note_with};
-ghost use Rattle.kernel_model.specs.Text.{spaced, pair_text, single_text, object_text, reply_text, refusal_text, cause_text, note_text, line};
+ghost use Rattle.kernel_model.specs.Text.{spaced, pair_text, single_text, object_text, reply_text};
+ghost use Rattle.kernel_model.specs.Text.{refusal_text, cause_text, note_text, line};
 
 use crate::append::{add, data, number_u8, number_u32, spaced_u8, spaced_u32, spaced_u64};
 use crate::buffer::Buffer;

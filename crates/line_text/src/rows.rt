@@ -1,7 +1,9 @@
 //! `print_row` and `print_lent`: the line of a raw row.
 
 ghost use Rattle.std.specs.Prelude.{◌≡◌, ◌≤◌, ◌<◌, ◌+◌, ◌*◌, ◌++◌, length, codes, decimal, flat_map, Option};
-ghost use Rattle.kernel_model.specs.Text.{spaced, bit, queue_text, frame_text, param_text, wait_text, top_text, inverse_text, open_text, row_text, line};
+ghost use Rattle.kernel_model.specs.Text.{spaced, bit, queue_text, frame_text, param_text};
+ghost use Rattle.kernel_model.specs.Text.{wait_text, top_text, inverse_text, open_text, row_text};
+ghost use Rattle.kernel_model.specs.Text.{line};
 ghost use Rattle.line_text.specs.Rows.{row_lent, FitsLine};
 
 use crate::append::{

@@ -3,7 +3,9 @@
 ghost use Rattle.std.specs.Prelude.{◌≡◌, ℕ, ◌<◌, ◌↔◌, true, length, IfOk};
 ghost use Rattle.kernel_model.specs.World.{processes};
 ghost use Rattle.kernel_model.specs.Laws.{IsInRange};
-ghost use Rattle.kernel_model.specs.Locks.{is_held, no_locks, lowest_holder, outermost_holding, with_touch, merge_level as level_merged, release_from as released_inward};
+ghost use Rattle.kernel_model.specs.Locks.{is_held, no_locks, lowest_holder, outermost_holding};
+ghost use Rattle.kernel_model.specs.Locks.{with_touch, merge_level as level_merged};
+ghost use Rattle.kernel_model.specs.Locks.{release_from as released_inward};
 ghost use Rattle.kernel_model.specs.declared.Held.TheVariants.{Free};
 ghost use Rattle.lock_table.specs.Masks.{held_by, levels_at, masks_of};
 

@@ -1,11 +1,14 @@
 //! The directory in block 0 of a disk.
 
-ghost use Rattle.std.specs.Prelude.{◌≡◌, ℕ, true, ◌≤◌, ◌==◌, ◌+◌, ◌*◌, nat_le, [], length, slice_range, slice_index_or, None, Some, IsSome, IfSome, ◌&&◌, cond, take_while};
+ghost use Rattle.std.specs.Prelude.{◌≡◌, ℕ, true, ◌≤◌, ◌==◌, ◌+◌, ◌*◌, nat_le, [], length};
+ghost use Rattle.std.specs.Prelude.{slice_range, slice_index_or, None, Some, IsSome, IfSome, ◌&&◌};
+ghost use Rattle.std.specs.Prelude.{cond, take_while};
 ghost use Rattle.std.specs.List.{list_any, list_all, prefix_len};
 ghost use Rattle.kernel_model.specs.declared.FileRow.{FileRow as Row};
 ghost use Rattle.kernel_model.specs.Bytes.{is_name_byte, word_at};
 ghost use Rattle.kernel_model.specs.World.{entry_named};
-ghost use Rattle.kernel_model.specs.Directory.{entries, entry_row, has_name, is_padded, lies_on_disk, is_usable, directory_of, usable_count};
+ghost use Rattle.kernel_model.specs.Directory.{entries, entry_row, has_name, is_padded};
+ghost use Rattle.kernel_model.specs.Directory.{lies_on_disk, is_usable, directory_of, usable_count};
 
 use arrayvec::ArrayVec;
 use kernel_model::{BLOCK_BYTES, FileRow, Name};

@@ -1,6 +1,8 @@
 //! A disk in memory.
 
-ghost use Rattle.std.specs.Prelude.{◌≡◌, ℕ, ◌<◌, ◌≤◌, ◌*◌, ◌/◌, ◌%◌, ◌+◌, ◌++◌, List, Some, length, cond, take, drop, slice_get, slice_set, slice_range, vec_len, if◌then◌else◌, is_ok, slice_index_or, []};
+ghost use Rattle.std.specs.Prelude.{◌≡◌, ℕ, ◌<◌, ◌≤◌, ◌*◌, ◌/◌, ◌%◌, ◌+◌, ◌++◌, List, Some, length};
+ghost use Rattle.std.specs.Prelude.{cond, take, drop, slice_get, slice_set, slice_range, vec_len};
+ghost use Rattle.std.specs.Prelude.{if◌then◌else◌, is_ok, slice_index_or, []};
 ghost use Rattle.std.specs.Option.{IfSome};
 ghost use Rattle.std.specs.Result.{is_err, OnOk};
 ghost use Rattle.vino_base.specs.Faults.{HasCause, counted};

@@ -4,7 +4,8 @@ ghost use Rattle.std.specs.Prelude.{◌≡◌, ℕ, ◌+◌, ◌-◌, ◌*◌, �
 ghost use Rattle.std.specs.List.{range_with_len};
 ghost use Rattle.std.specs.Result.{OnOk};
 ghost use Rattle.kernel_model.specs.Bytes.{word_bytes};
-ghost use Rattle.kernel_model.specs.Directory.{sample_entry, sample_directory, sample_byte, sample_block, sample_disk, blocks_of_disk};
+ghost use Rattle.kernel_model.specs.Directory.{sample_entry, sample_directory, sample_byte};
+ghost use Rattle.kernel_model.specs.Directory.{sample_block, sample_disk, blocks_of_disk};
 ghost use Rattle.mem_disk.specs.DiskState.{blocks_in};
 
 use crate::disk::MemDisk;

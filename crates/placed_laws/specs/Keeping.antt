@@ -17,7 +17,10 @@ use Rattle.kernel_model.specs.Sound.{IsSoundKernel, IsAtRest}
 use Rattle.kernel_model.specs.Alike.{Extends}
 use Rattle.graft_laws.specs.Kernels.{with_images}
 use Rattle.placed_laws.specs.Placed.{has_some, PlacedCall, Placed, PlacedRun, placed_holds, placed_blocker}
-use Rattle.placed_laws.specs.PlacedSteps.{with_placed_call, placed_noted, placed_joins, placed_requeue, placed_ticked, placed_rested_order, with_placed_order, with_placed_images, placed_step, placed_drop}
+use Rattle.placed_laws.specs.PlacedSteps.{with_placed_call, placed_noted, placed_joins}
+use Rattle.placed_laws.specs.PlacedSteps.{placed_requeue, placed_ticked, placed_rested_order}
+use Rattle.placed_laws.specs.PlacedSteps.{with_placed_order, with_placed_images, placed_step}
+use Rattle.placed_laws.specs.PlacedSteps.{placed_drop}
 use Rattle.placed_laws.specs.PlacedEvents.{placed_event_on}
 use Rattle.placed_laws.specs.Stands.{StandsFor, RunStandsFor}
 

@@ -1,5 +1,6 @@
 -- One event of a kernel in place.
-use Rattle.std.specs.Prelude.{ℕ, zero, suc, Bool, true, false, not, ◌&&◌, nat_le, List, [], ◌∷◌, Option, Some, None, length, Result, Ok, Err}
+use Rattle.std.specs.Prelude.{ℕ, zero, suc, Bool, true, false, not, ◌&&◌, nat_le, List, [], ◌∷◌}
+use Rattle.std.specs.Prelude.{Option, Some, None, length, Result, Ok, Err}
 use Rattle.kernel_model.specs.declared.Event.{Event}
 use Rattle.kernel_model.specs.declared.Event.TheVariants.{Tick, Step, Sys}
 use Rattle.kernel_model.specs.declared.SysCall.{SysCall}
@@ -14,8 +15,12 @@ use Rattle.kernel_model.specs.Meaning.{Meaning, Stage}
 use Rattle.kernel_model.specs.Locks.{outermost_holding}
 use Rattle.kernel_model.specs.Kernel.{Blocker, Entry}
 use Rattle.kernel_model.specs.Events.{object_kind, MOST_STEPS, in_order, wanted}
-use Rattle.placed_laws.specs.Placed.{PlacedLevel, PlacedCall, Placed, PlacedRun, has_some, placed_holds, placed_needs, placed_blocker}
-use Rattle.placed_laws.specs.PlacedSteps.{with_placed_call, placed_noted, placed_joins, placed_requeue, placed_ticked, with_placed_order, placed_step, placed_drop, placed_first_free, placed_rested_order}
+use Rattle.placed_laws.specs.Placed.{PlacedLevel, PlacedCall, Placed, PlacedRun, has_some}
+use Rattle.placed_laws.specs.Placed.{placed_holds, placed_needs, placed_blocker}
+use Rattle.placed_laws.specs.PlacedSteps.{with_placed_call, placed_noted, placed_joins}
+use Rattle.placed_laws.specs.PlacedSteps.{placed_requeue, placed_ticked, with_placed_order}
+use Rattle.placed_laws.specs.PlacedSteps.{placed_step, placed_drop, placed_first_free}
+use Rattle.placed_laws.specs.PlacedSteps.{placed_rested_order}
 
 -- ---- where a call stands at the end of an event
 

@@ -1,11 +1,14 @@
 -- The rows that show a kernel in place.
-use Rattle.std.specs.Prelude.{ℕ, ◌==◌, List, [], ◌∷◌, ◌++◌, Option, map, filter_map, flat_map, find, option_map, reverse}
+use Rattle.std.specs.Prelude.{ℕ, ◌==◌, List, [], ◌∷◌, ◌++◌, Option, map, filter_map, flat_map, find}
+use Rattle.std.specs.Prelude.{option_map, reverse}
 use Rattle.kernel_model.specs.declared.RawRow.{RawRow}
 use Rattle.kernel_model.specs.declared.WaitRow.{WaitRow}
 use Rattle.kernel_model.specs.World.{processes}
 use Rattle.kernel_model.specs.UndoLog.{undo_log, numbered_log}
 use Rattle.kernel_model.specs.Kernel.{Entry}
-use Rattle.kernel_model.specs.RawRows.{living, points, acct_row, cells_row, open_rows, graft_rows, pol_row, frame_row_of, lock_row, wait_by, top_of, rows_of_levels, undo_row}
+use Rattle.kernel_model.specs.RawRows.{living, points, acct_row, cells_row, open_rows, graft_rows}
+use Rattle.kernel_model.specs.RawRows.{pol_row, frame_row_of, lock_row, wait_by, top_of}
+use Rattle.kernel_model.specs.RawRows.{rows_of_levels, undo_row}
 use Rattle.placed_laws.specs.Placed.{PlacedCall, Placed, placed_levels}
 
 -- what a process waits for

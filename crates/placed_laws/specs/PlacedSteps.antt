@@ -15,7 +15,8 @@ use Rattle.kernel_model.specs.Kernel.{Entry, gave_note, after_note, new_entry, l
 use Rattle.kernel_model.specs.Settle.{entry_with}
 use Rattle.kernel_model.specs.Locks.{LockTable}
 use Rattle.kernel_model.specs.Events.{counted}
-use Rattle.placed_laws.specs.Placed.{PlacedCall, PlacedLevel, Placed, PlacedRun, bare, placed_levels, placed_config, placed_holds, placed_blocker_in}
+use Rattle.placed_laws.specs.Placed.{PlacedCall, PlacedLevel, Placed, PlacedRun, bare}
+use Rattle.placed_laws.specs.Placed.{placed_levels, placed_config, placed_holds, placed_blocker_in}
 
 -- ---- changes
 

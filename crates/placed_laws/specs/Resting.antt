@@ -7,7 +7,8 @@ use Rattle.kernel_model.specs.Settle.{settled, step}
 use Rattle.kernel_model.specs.Events.{in_order}
 use Rattle.kernel_model.specs.Sound.{IsAtRest}
 use Rattle.kernel_model.specs.Alike.{is_needed}
-use Rattle.placed_laws.specs.Placed.{has_some, Placed, PlacedCall, PlacedRun, placed_holds, placed_needs, placed_blocker}
+use Rattle.placed_laws.specs.Placed.{has_some, Placed, PlacedCall, PlacedRun, placed_holds}
+use Rattle.placed_laws.specs.Placed.{placed_needs, placed_blocker}
 use Rattle.placed_laws.specs.PlacedSteps.{placed_step}
 use Rattle.placed_laws.specs.PlacedEvents.{placed_settled}
 use Rattle.placed_laws.specs.Stands.{RunStandsFor}

@@ -1,6 +1,7 @@
 //! Laws that a kernel in place goes on to stand for the abstract kernel.
 
-ghost use Rattle.placed_laws.specs.Keeping.{QuietKernelsStand, StepsStand, DropsStand, OthersStand, EventsStand, HeldStays, ImagesKeepRest};
+ghost use Rattle.placed_laws.specs.Keeping.{QuietKernelsStand, StepsStand, DropsStand, OthersStand};
+ghost use Rattle.placed_laws.specs.Keeping.{EventsStand, HeldStays, ImagesKeepRest};
 
 use kernel_model::Rules;
 

@@ -1,5 +1,6 @@
 -- On states that differ only in what grafts may change, pieces ask points of the same kind.
-use Rattle.std.specs.Prelude.{◌≡◌, ℕ, zero, suc, ◌==◌, true, false, ◌&&◌, nat_lt, nat_le, min, List, [], ◌∷◌, length, Option, Some, None, is_some, Result, Ok, Err}
+use Rattle.std.specs.Prelude.{◌≡◌, ℕ, zero, suc, ◌==◌, true, false, ◌&&◌, nat_lt, nat_le, min, List}
+use Rattle.std.specs.Prelude.{[], ◌∷◌, length, Option, Some, None, is_some, Result, Ok, Err}
 use Rattle.std.proofs.Common.{refl, ap, sym, subst, ◌∙◌}
 use Rattle.std.proofs.lemmas.Bool.{and_parts, cond-true}
 use Rattle.kernel_model.specs.declared.Point.{Point}
@@ -10,8 +11,11 @@ use Rattle.kernel_model.specs.declared.SysCall.{SysCall}
 use Rattle.kernel_model.specs.declared.SysCall.TheVariants.{Yield, Read, Write}
 use Rattle.kernel_model.specs.World.{World, blocks_of}
 use Rattle.kernel_model.specs.Objects.{Objects, CacheValue, FrameValue, PolValue}
-use Rattle.kernel_model.specs.Policies.{PointKind, Ahead, Victim, Next, kind_of, next_process, victim_among, victim_key, ahead_default, open_blocks}
-use Rattle.kernel_model.specs.Needs.{victim_ask, fetch_ask, candidate_by, candidate_for, frame_with, frame_of_block, free_frame, file_block, ahead_block, slice_ask, yield_ask, read_ask, piece_ask}
+use Rattle.kernel_model.specs.Policies.{PointKind, Ahead, Victim, Next, kind_of, next_process}
+use Rattle.kernel_model.specs.Policies.{victim_among, victim_key, ahead_default, open_blocks}
+use Rattle.kernel_model.specs.Needs.{victim_ask, fetch_ask, candidate_by, candidate_for, frame_with}
+use Rattle.kernel_model.specs.Needs.{frame_of_block, free_frame, file_block, ahead_block, slice_ask}
+use Rattle.kernel_model.specs.Needs.{yield_ask, read_ask, piece_ask}
 use Rattle.kernel_model.specs.Pieces.{piece_fits, read_fits}
 use Rattle.kernel_model.specs.Alike.{AreAlike, windowless, markless, niceless}
 use Rattle.kernel_model.specs.Laws.{SameKindOfPoint, SameAheadAsk}

@@ -15,7 +15,9 @@ use Rattle.kernel_model.specs.World.{World}
 use Rattle.kernel_model.specs.Objects.{Objects, Things, CacheValue, PolValue, SameAt, same_object}
 use Rattle.kernel_model.specs.SameObject.{same_object_self}
 use Rattle.kernel_model.specs.Policies.{next_process, nice_of, ahead_default, open_blocks}
-use Rattle.kernel_model.specs.Needs.{victim_needs, victim_ask, fetch_needs, fetch_ask, candidate_for, file_block, ahead_block, slice_ask, yield_needs, yield_ask, read_needs, read_ask, piece_needs, piece_ask}
+use Rattle.kernel_model.specs.Needs.{victim_needs, victim_ask, fetch_needs, fetch_ask}
+use Rattle.kernel_model.specs.Needs.{candidate_for, file_block, ahead_block, slice_ask, yield_needs}
+use Rattle.kernel_model.specs.Needs.{yield_ask, read_needs, read_ask, piece_needs, piece_ask}
 use Rattle.kernel_model.specs.Alike.{AgreeOn, is_needed}
 use Rattle.plain_rules.specs.Candidates.{candidate_stands}
 

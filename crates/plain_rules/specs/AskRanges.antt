@@ -1,5 +1,7 @@
 -- The numbers of the point that a piece asks are in their ranges, and its arguments are words.
-use Rattle.std.specs.Prelude.{◌≡◌, ℕ, zero, suc, ◌+◌, ◌-◌, ◌*◌, ◌^◌, ◌<◌, ◌≤◌, min, Bool, true, false, cond, ◌==◌, nat_lt, nat_le, List, [], ◌∷◌, length, filter, slice_index, Contains, Option, Some, None, is_some, Result, Ok, Err}
+use Rattle.std.specs.Prelude.{◌≡◌, ℕ, zero, suc, ◌+◌, ◌-◌, ◌*◌, ◌^◌, ◌<◌, ◌≤◌, min, Bool, true}
+use Rattle.std.specs.Prelude.{false, cond, ◌==◌, nat_lt, nat_le, List, [], ◌∷◌, length, filter}
+use Rattle.std.specs.Prelude.{slice_index, Contains, Option, Some, None, is_some, Result, Ok, Err}
 use Rattle.std.specs.List.{AllByRecursion as Each}
 use Rattle.std.proofs.Common.{arith, refl, subst}
 use Rattle.std.proofs.lemmas.Bool.{ltb-true, and_parts}
@@ -15,9 +17,13 @@ use Rattle.kernel_model.specs.declared.SysCall.{SysCall}
 use Rattle.kernel_model.specs.declared.SysCall.TheVariants.{Yield, Read, Write}
 use Rattle.kernel_model.specs.World.{World, ImageTable, file_row, blocks_of, block_of}
 use Rattle.kernel_model.specs.Objects.{Objects, PolValue}
-use Rattle.kernel_model.specs.Policies.{lives, victim_key, victim_among, next_process, first_nice, nice_of, frames_of, is_owned, ahead_default, open_blocks}
+use Rattle.kernel_model.specs.Policies.{lives, victim_key, victim_among, next_process, first_nice}
+use Rattle.kernel_model.specs.Policies.{nice_of, frames_of, is_owned, ahead_default, open_blocks}
 use Rattle.kernel_model.specs.Early.{refused}
-use Rattle.kernel_model.specs.Needs.{owner_asked, victim_ask, fetch_ask, candidate_by, candidate_for, frame_of_block, free_frame, file_block, file_block_in, is_within, ahead_block, slice_ask, yield_ask, read_ask, piece_ask}
+use Rattle.kernel_model.specs.Needs.{owner_asked, victim_ask, fetch_ask, candidate_by}
+use Rattle.kernel_model.specs.Needs.{candidate_for, frame_of_block, free_frame, file_block}
+use Rattle.kernel_model.specs.Needs.{file_block_in, is_within, ahead_block, slice_ask, yield_ask}
+use Rattle.kernel_model.specs.Needs.{read_ask, piece_ask}
 use Rattle.kernel_model.specs.Sound.{IsSoundStore, IsSoundFile, once_if, in_queue}
 use Rattle.kernel_model.specs.Laws.{IsRightPoint}
 use Rattle.plain_rules.specs.GrantedCalls.{PieceStands}

@@ -1,6 +1,7 @@
 -- Where a piece asks a point, its objects end with the point's, and those before are the same in
 -- every state.
-use Rattle.std.specs.Prelude.{◌≡◌, ℕ, zero, suc, ◌-◌, List, [], ◌∷◌, ◌++◌, length, take, Option, Some, None, Result, Ok, Err}
+use Rattle.std.specs.Prelude.{◌≡◌, ℕ, zero, suc, ◌-◌, List, [], ◌∷◌, ◌++◌, length, take, Option}
+use Rattle.std.specs.Prelude.{Some, None, Result, Ok, Err}
 use Rattle.std.proofs.Common.{arith, ap, ◌∙◌}
 use Rattle.std.proofs.Math.Seq.{take-append_seam}
 use Rattle.std.proofs.lemmas.List.{length-append}
@@ -13,7 +14,10 @@ use Rattle.kernel_model.specs.declared.SysCall.TheVariants.{Yield, Read, Write}
 use Rattle.kernel_model.specs.World.{World}
 use Rattle.kernel_model.specs.Objects.{Objects, CacheValue}
 use Rattle.kernel_model.specs.Policies.{next_process}
-use Rattle.kernel_model.specs.Needs.{shared, exclusive, victim_needs, victim_ask, fetch_needs, fetch_ask, candidate_for, file_block, ahead_block, slice_needs, slice_ask, yield_needs, yield_ask, read_needs, read_ask, piece_needs, piece_ask}
+use Rattle.kernel_model.specs.Needs.{shared, exclusive, victim_needs, victim_ask, fetch_needs}
+use Rattle.kernel_model.specs.Needs.{fetch_ask, candidate_for, file_block, ahead_block, slice_needs}
+use Rattle.kernel_model.specs.Needs.{slice_ask, yield_needs, yield_ask, read_needs, read_ask}
+use Rattle.kernel_model.specs.Needs.{piece_needs, piece_ask}
 use Rattle.kernel_model.specs.Laws.{needs_of_point, before_point}
 
 -- the objects of a read before those of the point that it asks

@@ -2,20 +2,27 @@
 use Rattle.std.specs.Prelude.{◌≡◌, ℕ, zero, suc, ◌<◌, ◌==◌, length, Bool, false, List, [], ◌∷◌, Option, None, Some}
 use Rattle.std.proofs.Common.{arith, refl, sym, ap, ◌∙◌, inl, inr}
 use Rattle.std.proofs.lemmas.Bool.{cases_Bool, false≢true, eqb-true, or_parts, cond-false}
-use Rattle.plain_rules.specs.Exits.{graft_of_another, account_of_another, needs_graft, needs_file, needs_cell, needs_lock}
+use Rattle.plain_rules.specs.Exits.{graft_of_another, account_of_another, needs_graft, needs_file}
+use Rattle.plain_rules.specs.Exits.{needs_cell, needs_lock}
 use Rattle.plain_rules.specs.FileChanges.{same_self, read_changes, write_changes, sync_changes, open_changes}
 use Rattle.std.proofs.lemmas.Bool.Decides.{nat_tests}
 use Rattle.kernel_model.specs.declared.Object.{Object}
 use Rattle.kernel_model.specs.declared.Object.TheVariants.{Graft, Acct, Cell, OpenFile, Queue, Cache, Lock, Pol}
 use Rattle.kernel_model.specs.declared.SysCall.{SysCall}
-use Rattle.kernel_model.specs.declared.SysCall.TheVariants.{Spawn, Exit, Yield, OpenName, CloseFd, Read, Write, Sync, TakeLock, FreeLock, Poke, Peek, Tune, Choose, Give, Install, Remove, Fund, Bill}
+use Rattle.kernel_model.specs.declared.SysCall.TheVariants.{Spawn, Exit, Yield, OpenName, CloseFd}
+use Rattle.kernel_model.specs.declared.SysCall.TheVariants.{Read, Write, Sync, TakeLock, FreeLock}
+use Rattle.kernel_model.specs.declared.SysCall.TheVariants.{Poke, Peek, Tune, Choose, Give, Install}
+use Rattle.kernel_model.specs.declared.SysCall.TheVariants.{Remove, Fund, Bill}
 use Rattle.kernel_model.specs.declared.Kind.{Kind}
 use Rattle.kernel_model.specs.declared.OpenRow.{OpenRow}
 use Rattle.kernel_model.specs.World.{World, Blocks, file_named}
 use Rattle.kernel_model.specs.Objects.{Objects, Accounts, GraftValue, SameAt, same_object}
 use Rattle.kernel_model.specs.Needs.{piece_needs, spawn_needs, exit_needs, free_process, exclusive, file_block}
 use Rattle.kernel_model.specs.FilePieces.{free_descriptor, close_piece}
-use Rattle.kernel_model.specs.Pieces.{piece_of, without_grafts, account_closed, exit_piece, new_graft, spawn_piece, yield_piece, poke_piece, lock_piece, unlock_piece, tune_piece, choose_piece, install_piece, bill_piece}
+use Rattle.kernel_model.specs.Pieces.{piece_of, without_grafts, account_closed, exit_piece}
+use Rattle.kernel_model.specs.Pieces.{new_graft, spawn_piece, yield_piece, poke_piece, lock_piece}
+use Rattle.kernel_model.specs.Pieces.{unlock_piece, tune_piece, choose_piece, install_piece}
+use Rattle.kernel_model.specs.Pieces.{bill_piece}
 use Rattle.kernel_model.specs.Alike.{is_needed_exclusively}
 use Rattle.kernel_model.specs.Laws.{IsInRange}
 

@@ -1,6 +1,7 @@
 -- The system calls meet the laws of disk calls: which ones a piece makes, and when it answers a
 -- disk fault.
-use Rattle.std.specs.Prelude.{◌≡◌, ℕ, zero, suc, ◌+◌, ◌-◌, ◌≤◌, Bool, true, false, cond, not, List, [], ◌∷◌, ◌++◌, length, take, Option, Some, None, Result, Ok, Err}
+use Rattle.std.specs.Prelude.{◌≡◌, ℕ, zero, suc, ◌+◌, ◌-◌, ◌≤◌, Bool, true, false, cond, not, List}
+use Rattle.std.specs.Prelude.{[], ◌∷◌, ◌++◌, length, take, Option, Some, None, Result, Ok, Err}
 use Rattle.std.specs.List.{list_any}
 use Rattle.std.proofs.Common.{arith, refl, ap, ◌∙◌}
 use Rattle.std.proofs.Math.ListN.{get_or-append}
@@ -16,8 +17,12 @@ use Rattle.kernel_model.specs.Objects.{Objects, PolValue, CacheValue, FrameValue
 use Rattle.kernel_model.specs.Policies.{or_zero, victim_among, ahead_default}
 use Rattle.kernel_model.specs.Meaning.{Stage, stage, registers_of, Piece, disk_fails}
 use Rattle.kernel_model.specs.Needs.{file_block, file_block_in, ahead_block, is_within, frame_of_block, free_frame}
-use Rattle.kernel_model.specs.Fetch.{cleaned, Fetched, Got, Failed, fetch, fetch_by, fetch_ahead, fetch_ahead_by, read_block, place_block, evict, chosen_by, replaced, new_frame, dirty_value}
-use Rattle.kernel_model.specs.FilePieces.{disk_failed, with_cache, unless_zero, read_first, read_third, ahead_by, read_first_at, read_third_at, read_piece, write_fetched, write_piece, sync_from}
+use Rattle.kernel_model.specs.Fetch.{cleaned, Fetched, Got, Failed, fetch, fetch_by, fetch_ahead}
+use Rattle.kernel_model.specs.Fetch.{fetch_ahead_by, read_block, place_block, evict, chosen_by}
+use Rattle.kernel_model.specs.Fetch.{replaced, new_frame, dirty_value}
+use Rattle.kernel_model.specs.FilePieces.{disk_failed, with_cache, unless_zero, read_first}
+use Rattle.kernel_model.specs.FilePieces.{read_third, ahead_by, read_first_at, read_third_at}
+use Rattle.kernel_model.specs.FilePieces.{read_piece, write_fetched, write_piece, sync_from}
 use Rattle.kernel_model.specs.Pieces.{plain_upto, piece_of, yield_piece}
 use Rattle.kernel_model.specs.Laws.{DiskLaws}
 use Rattle.plain_rules.specs.QuickPieces.{is_disk_fault, is_faulty, quick_piece}

@@ -1,5 +1,6 @@
 -- How frames stand in the order of use, and what a fetch can come to.
-use Rattle.std.specs.Prelude.{◌≡◌, ◌≢◌, ℕ, ◌≤◌, ◌==◌, nat_lt, Bool, true, false, cond, List, [], ◌∷◌, Option, None, Some, is_some, ⊤}
+use Rattle.std.specs.Prelude.{◌≡◌, ◌≢◌, ℕ, ◌≤◌, ◌==◌, nat_lt, Bool, true, false, cond, List, []}
+use Rattle.std.specs.Prelude.{◌∷◌, Option, None, Some, is_some, ⊤}
 use Rattle.std.proofs.Common.{arith, refl, sym, ap, ◌∙◌, inl, inr}
 use Rattle.std.proofs.lemmas.Bool.{cases_eq, eqb-false}
 use Rattle.std.proofs.lemmas.Bool.Decides.{nat_tests}
@@ -9,7 +10,9 @@ use Rattle.kernel_model.specs.Objects.{CacheValue, FrameValue, PolValue, at}
 use Rattle.kernel_model.specs.Policies.{least, or_zero, victim_among}
 use Rattle.kernel_model.specs.Meaning.{disk_fails}
 use Rattle.kernel_model.specs.Needs.{frame_with, frame_of_block, free_frame}
-use Rattle.kernel_model.specs.Fetch.{Fetched, Got, Failed, fetch, fetch_by, fetch_ahead, fetch_ahead_by, read_block, place_block, evict, chosen_by, used, filled, replaced, new_frame}
+use Rattle.kernel_model.specs.Fetch.{Fetched, Got, Failed, fetch, fetch_by, fetch_ahead}
+use Rattle.kernel_model.specs.Fetch.{fetch_ahead_by, read_block, place_block, evict, chosen_by}
+use Rattle.kernel_model.specs.Fetch.{used, filled, replaced, new_frame}
 use Rattle.kernel_model.specs.Sound.{count_of, once_if}
 use Rattle.plain_rules.specs.SoundCaches.{IsSoundCache}
 

@@ -1,5 +1,6 @@
 -- Reads, writes, syncs and opens change no object but those that they need exclusively.
-use Rattle.std.specs.Prelude.{◌≡◌, ℕ, zero, suc, ◌+◌, ◌-◌, Bool, true, false, map, List, ◌∷◌, Option, None, Some, Result, Ok, Err}
+use Rattle.std.specs.Prelude.{◌≡◌, ℕ, zero, suc, ◌+◌, ◌-◌, Bool, true, false, map, List, ◌∷◌}
+use Rattle.std.specs.Prelude.{Option, None, Some, Result, Ok, Err}
 use Rattle.std.specs.List.{range_with_len}
 use Rattle.std.proofs.Common.{arith, refl, subst, sym, ap, ◌∙◌, inl, inr}
 use Rattle.std.proofs.lemmas.Bool.{cases_Bool, false≢true}
@@ -18,7 +19,11 @@ use Rattle.kernel_model.specs.Meaning.{Piece, disk_fails}
 use Rattle.kernel_model.specs.Policies.{ahead_default}
 use Rattle.kernel_model.specs.Needs.{exclusive, fetch_needs, read_needs, file_block, ahead_block}
 use Rattle.kernel_model.specs.Fetch.{Fetched, Got, Failed, fetch, fetch_ahead, with_patch, cleaned, dirty_value}
-use Rattle.kernel_model.specs.FilePieces.{new_file, with_file, with_cache, free_descriptor, read_piece, read_on, with_ahead, ahead_by, disk_failed, open_piece, read_first, read_second, read_third, read_first_at, read_third_at, write_fetched, write_piece, sync_from}
+use Rattle.kernel_model.specs.FilePieces.{new_file, with_file, with_cache, free_descriptor}
+use Rattle.kernel_model.specs.FilePieces.{read_piece, read_on, with_ahead, ahead_by, disk_failed}
+use Rattle.kernel_model.specs.FilePieces.{open_piece, read_first, read_second, read_third}
+use Rattle.kernel_model.specs.FilePieces.{read_first_at, read_third_at, write_fetched, write_piece}
+use Rattle.kernel_model.specs.FilePieces.{sync_from}
 use Rattle.kernel_model.specs.Alike.{is_needed_exclusively}
 
 -- a state has its own values

@@ -1,6 +1,7 @@
 -- What is known of a call that stands at a stage: its numbers are in their ranges, and what its
 -- piece fetches is of a file.
-use Rattle.std.specs.Prelude.{◌≡◌, ◌≢◌, ℕ, zero, suc, ◌+◌, ◌<◌, ◌≤◌, ◌&&◌, nat_lt, nat_le, Bool, true, length, List, Option, None, Some, Result, Ok, slice_index}
+use Rattle.std.specs.Prelude.{◌≡◌, ◌≢◌, ℕ, zero, suc, ◌+◌, ◌<◌, ◌≤◌, ◌&&◌, nat_lt, nat_le, Bool}
+use Rattle.std.specs.Prelude.{true, length, List, Option, None, Some, Result, Ok, slice_index}
 use Rattle.std.specs.Result.{is_ok}
 use Rattle.std.proofs.Common.{arith, subst, ap, ◌∙◌}
 use Rattle.std.proofs.lemmas.Bool.{and_parts, leb-true, lt-ltb, cond-true}
@@ -9,7 +10,9 @@ use Rattle.kernel_model.specs.declared.Kind.{Kind}
 use Rattle.kernel_model.specs.declared.OpenRow.{OpenRow}
 use Rattle.kernel_model.specs.declared.Refusal.{Refusal}
 use Rattle.kernel_model.specs.declared.SysCall.{SysCall}
-use Rattle.kernel_model.specs.declared.SysCall.TheVariants.{Exit, CloseFd, Read, Write, TakeLock, FreeLock, Tune, Choose, Install, Remove, Fund, Bill}
+use Rattle.kernel_model.specs.declared.SysCall.TheVariants.{Exit, CloseFd, Read, Write, TakeLock}
+use Rattle.kernel_model.specs.declared.SysCall.TheVariants.{FreeLock, Tune, Choose, Install, Remove}
+use Rattle.kernel_model.specs.declared.SysCall.TheVariants.{Fund, Bill}
 use Rattle.kernel_model.specs.World.{World, ImageTable, Blocks, blocks_of}
 use Rattle.kernel_model.specs.Objects.{Objects}
 use Rattle.kernel_model.specs.Policies.{PointKind, Ahead, kind_of, lives, args_by, open_blocks}

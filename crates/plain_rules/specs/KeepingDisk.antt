@@ -1,21 +1,30 @@
 -- Pieces and the disk: frames stay on it, and blocks stay whole.
-use Rattle.std.specs.Prelude.{◌≡◌, ℕ, zero, suc, ◌<◌, ◌≤◌, Bool, ◌&&◌, nat_lt, nat_le, length, List, Option, None, Some, Result, Ok, Err}
+use Rattle.std.specs.Prelude.{◌≡◌, ℕ, zero, suc, ◌<◌, ◌≤◌, Bool, ◌&&◌, nat_lt, nat_le, length, List}
+use Rattle.std.specs.Prelude.{Option, None, Some, Result, Ok, Err}
 use Rattle.std.proofs.Common.{arith, refl, subst, sym}
 use Rattle.std.proofs.lemmas.Bool.Decides.{nat_tests}
 use Rattle.kernel_model.specs.declared.Kind.{Kind}
 use Rattle.kernel_model.specs.declared.OpenRow.{OpenRow}
 use Rattle.kernel_model.specs.declared.Refusal.{Refusal}
 use Rattle.kernel_model.specs.declared.SysCall.{SysCall}
-use Rattle.kernel_model.specs.declared.SysCall.TheVariants.{Spawn, Exit, Yield, OpenName, CloseFd, Read, Write, Sync, TakeLock, FreeLock, Poke, Peek, Tune, Choose, Give, Install, Remove, Fund, Bill}
+use Rattle.kernel_model.specs.declared.SysCall.TheVariants.{Spawn, Exit, Yield, OpenName, CloseFd}
+use Rattle.kernel_model.specs.declared.SysCall.TheVariants.{Read, Write, Sync, TakeLock, FreeLock}
+use Rattle.kernel_model.specs.declared.SysCall.TheVariants.{Poke, Peek, Tune, Choose, Give, Install}
+use Rattle.kernel_model.specs.declared.SysCall.TheVariants.{Remove, Fund, Bill}
 use Rattle.kernel_model.specs.World.{World, ImageTable, Blocks, file_named}
 use Rattle.kernel_model.specs.Objects.{Objects, CacheValue, FrameValue, GraftValue, at}
 use Rattle.kernel_model.specs.Policies.{lives}
 use Rattle.kernel_model.specs.Meaning.{Piece}
 use Rattle.kernel_model.specs.Needs.{file_block, ahead_block, free_process}
 use Rattle.kernel_model.specs.Fetch.{Fetched, Got, Failed, fetch, fetch_ahead, with_patch, patched}
-use Rattle.kernel_model.specs.FilePieces.{free_descriptor, open_piece, close_piece, read_piece, read_first, read_third, read_first_at, read_third_at, write_fetched, write_piece}
+use Rattle.kernel_model.specs.FilePieces.{free_descriptor, open_piece, close_piece, read_piece}
+use Rattle.kernel_model.specs.FilePieces.{read_first, read_third, read_first_at, read_third_at}
+use Rattle.kernel_model.specs.FilePieces.{write_fetched, write_piece}
 use Rattle.std.proofs.lemmas.Bool.{and_parts}
-use Rattle.kernel_model.specs.Pieces.{read_fits, piece_of, spawn_piece, exit_piece, yield_piece, lock_piece, unlock_piece, tune_piece, give_piece, install_piece, remove_piece, fund_piece, bill_piece, new_graft, handed_over}
+use Rattle.kernel_model.specs.Pieces.{read_fits, piece_of, spawn_piece, exit_piece, yield_piece}
+use Rattle.kernel_model.specs.Pieces.{lock_piece, unlock_piece, tune_piece, give_piece}
+use Rattle.kernel_model.specs.Pieces.{install_piece, remove_piece, fund_piece, bill_piece}
+use Rattle.kernel_model.specs.Pieces.{new_graft, handed_over}
 use Rattle.kernel_model.specs.Sound.{IsSoundStore, HasWholeBlocks}
 use Rattle.plain_rules.specs.SoundCaches.{cache_of_store}
 use Rattle.plain_rules.specs.FetchCases.{AllGot}

@@ -1,10 +1,14 @@
 -- Grafts that pieces put in place, and the images of grafts.
-use Rattle.std.specs.Prelude.{◌≡◌, ℕ, zero, suc, Bool, true, false, ◌&&◌, ◌==◌, length, List, Option, None, Some, is_some}
+use Rattle.std.specs.Prelude.{◌≡◌, ℕ, zero, suc, Bool, true, false, ◌&&◌, ◌==◌, length, List}
+use Rattle.std.specs.Prelude.{Option, None, Some, is_some}
 use Rattle.std.proofs.Common.{arith, refl, subst, sym, ap, ◌∙◌, inl, inr}
 use Rattle.std.proofs.lemmas.Bool.{cases_Bool, cond-true, cond-false}
 use Rattle.std.proofs.lemmas.Bool.Decides.{nat_tests}
 use Rattle.kernel_model.specs.declared.SysCall.{SysCall}
-use Rattle.kernel_model.specs.declared.SysCall.TheVariants.{Spawn, Exit, Yield, OpenName, CloseFd, Read, Write, Sync, TakeLock, FreeLock, Poke, Peek, Tune, Choose, Give, Install, Remove, Fund, Bill}
+use Rattle.kernel_model.specs.declared.SysCall.TheVariants.{Spawn, Exit, Yield, OpenName, CloseFd}
+use Rattle.kernel_model.specs.declared.SysCall.TheVariants.{Read, Write, Sync, TakeLock, FreeLock}
+use Rattle.kernel_model.specs.declared.SysCall.TheVariants.{Poke, Peek, Tune, Choose, Give, Install}
+use Rattle.kernel_model.specs.declared.SysCall.TheVariants.{Remove, Fund, Bill}
 use Rattle.kernel_model.specs.declared.Kind.{Kind}
 use Rattle.kernel_model.specs.World.{World, Blocks, ImageTable, file_named}
 use Rattle.kernel_model.specs.Objects.{Objects, Accounts, GraftValue}
@@ -13,10 +17,14 @@ use Rattle.plain_rules.specs.GrantedCalls.{IsGranted}
 use Rattle.kernel_model.specs.Needs.{file_block, free_process}
 use Rattle.kernel_model.specs.FilePieces.{free_descriptor}
 use Rattle.kernel_model.specs.Policies.{lives}
-use Rattle.kernel_model.specs.Pieces.{piece_of, without_grafts, install_piece, remove_piece, fund_piece, bill_piece, give_piece, new_graft}
+use Rattle.kernel_model.specs.Pieces.{piece_of, without_grafts, install_piece, remove_piece}
+use Rattle.kernel_model.specs.Pieces.{fund_piece, bill_piece, give_piece, new_graft}
 use Rattle.kernel_model.specs.Sound.{ImagesAreLoaded}
 use Rattle.kernel_model.specs.Laws.{is_new_graft, continues}
-use Rattle.plain_rules.specs.SameAccounts.{spawn_accounts, yield_accounts, open_leaves, close_leaves, take_leaves, free_leaves, tune_leaves, read_leaves_processes, write_leaves_processes, sync_leaves}
+use Rattle.plain_rules.specs.SameAccounts.{spawn_accounts, yield_accounts, open_leaves}
+use Rattle.plain_rules.specs.SameAccounts.{close_leaves, take_leaves, free_leaves, tune_leaves}
+use Rattle.plain_rules.specs.SameAccounts.{read_leaves_processes, write_leaves_processes}
+use Rattle.plain_rules.specs.SameAccounts.{sync_leaves}
 
 -- the image of a graft, if one stands
 abbrev image_at : Option GraftValue → Option ℕ

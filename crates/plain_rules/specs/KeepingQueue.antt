@@ -1,9 +1,13 @@
 -- Pieces and the queue: who lives after a piece, and how many slices it gives.
-use Rattle.std.specs.Prelude.{◌≡◌, ◌≢◌, ℕ, zero, suc, ◌+◌, ◌<◌, ◌≤◌, ◌==◌, Bool, true, false, length, List, [], ◌∷◌, Option, None, Some}
+use Rattle.std.specs.Prelude.{◌≡◌, ◌≢◌, ℕ, zero, suc, ◌+◌, ◌<◌, ◌≤◌, ◌==◌, Bool, true, false}
+use Rattle.std.specs.Prelude.{length, List, [], ◌∷◌, Option, None, Some}
 use Rattle.std.proofs.Common.{arith, refl, ap, ◌∙◌}
 use Rattle.std.proofs.lemmas.Bool.{or_left, cond-false, ne_eqb}
 use Rattle.kernel_model.specs.declared.SysCall.{SysCall}
-use Rattle.kernel_model.specs.declared.SysCall.TheVariants.{Spawn, Exit, Yield, OpenName, CloseFd, Read, Write, Sync, TakeLock, FreeLock, Poke, Peek, Tune, Choose, Give, Install, Remove, Fund, Bill}
+use Rattle.kernel_model.specs.declared.SysCall.TheVariants.{Spawn, Exit, Yield, OpenName, CloseFd}
+use Rattle.kernel_model.specs.declared.SysCall.TheVariants.{Read, Write, Sync, TakeLock, FreeLock}
+use Rattle.kernel_model.specs.declared.SysCall.TheVariants.{Poke, Peek, Tune, Choose, Give, Install}
+use Rattle.kernel_model.specs.declared.SysCall.TheVariants.{Remove, Fund, Bill}
 use Rattle.kernel_model.specs.declared.Kind.{Kind}
 use Rattle.kernel_model.specs.declared.QueueRow.{QueueRow}
 use Rattle.kernel_model.specs.World.{World, Blocks, file_named}
@@ -13,11 +17,16 @@ use Rattle.kernel_model.specs.Needs.{file_block, free_process}
 use Rattle.kernel_model.specs.FilePieces.{free_descriptor}
 use Rattle.kernel_model.specs.Policies.{lives, next_process, or_zero}
 use Rattle.kernel_model.specs.Fetch.{chosen_by}
-use Rattle.kernel_model.specs.Pieces.{piece_of, spawn_piece, yield_piece, exit_piece, give_piece, install_piece, remove_piece, fund_piece, bill_piece, new_graft}
+use Rattle.kernel_model.specs.Pieces.{piece_of, spawn_piece, yield_piece, exit_piece, give_piece}
+use Rattle.kernel_model.specs.Pieces.{install_piece, remove_piece, fund_piece, bill_piece}
+use Rattle.kernel_model.specs.Pieces.{new_graft}
 use Rattle.kernel_model.specs.Sound.{count_of, once_if, in_queue}
 use Rattle.kernel_model.specs.Laws.{continues, slices_in}
-use Rattle.plain_rules.specs.SameAccounts.{open_leaves, close_leaves, take_leaves, free_leaves, tune_leaves, read_leaves_processes, write_leaves_processes, sync_leaves}
-use Rattle.plain_rules.specs.Rows.{lives_append, lives_others, lives_to_back, lives_add_slice, slices_push, slices_others, slices_to_back, slices_add}
+use Rattle.plain_rules.specs.SameAccounts.{open_leaves, close_leaves, take_leaves, free_leaves}
+use Rattle.plain_rules.specs.SameAccounts.{tune_leaves, read_leaves_processes}
+use Rattle.plain_rules.specs.SameAccounts.{write_leaves_processes, sync_leaves}
+use Rattle.plain_rules.specs.Rows.{lives_append, lives_others, lives_to_back, lives_add_slice}
+use Rattle.plain_rules.specs.Rows.{slices_push, slices_others, slices_to_back, slices_add}
 
 -- no process but this one ends, and it doesn't if the call goes on
 pub record KeepsLiving (s : Objects) (p : ℕ) (a : Piece) : Type 0 where

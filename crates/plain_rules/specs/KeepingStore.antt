@@ -3,7 +3,10 @@ use Rattle.std.specs.Prelude.{◌≡◌, ℕ, ◌<◌, ◌==◌, nat_le, Bool, t
 use Rattle.std.proofs.Common.{refl, subst, sym, inl, inr}
 use Rattle.std.proofs.lemmas.Bool.{cases_eq, and_parts, leb-true, cond-true, cond-false, eq-eqb, ne_eqb}
 use Rattle.kernel_model.specs.declared.SysCall.{SysCall}
-use Rattle.kernel_model.specs.declared.SysCall.TheVariants.{Spawn, Exit, Yield, OpenName, CloseFd, Read, Write, Sync, TakeLock, FreeLock, Poke, Peek, Tune, Choose, Give, Install, Remove, Fund, Bill}
+use Rattle.kernel_model.specs.declared.SysCall.TheVariants.{Spawn, Exit, Yield, OpenName, CloseFd}
+use Rattle.kernel_model.specs.declared.SysCall.TheVariants.{Read, Write, Sync, TakeLock, FreeLock}
+use Rattle.kernel_model.specs.declared.SysCall.TheVariants.{Poke, Peek, Tune, Choose, Give, Install}
+use Rattle.kernel_model.specs.declared.SysCall.TheVariants.{Remove, Fund, Bill}
 use Rattle.kernel_model.specs.declared.Refusal.TheVariants.{NotHeld, BadIndex}
 use Rattle.kernel_model.specs.World.{World, ImageTable, Blocks, file_named}
 use Rattle.kernel_model.specs.Objects.{Objects, PolValue, with_things}
@@ -20,7 +23,10 @@ use Rattle.plain_rules.specs.SoundProcesses.{spawn_store, yield_store, exit_stor
 use Rattle.plain_rules.specs.SoundAccounts.{give_store, install_store, remove_store, fund_store, bill_store}
 use Rattle.plain_rules.specs.SoundFiles.{open_store, close_store, read_store, write_store, file_block_is}
 use Rattle.plain_rules.specs.Syncs.{sync_store}
-use Rattle.plain_rules.specs.GrantedCalls.{PieceReady, exit_granted, close_granted, read_granted, write_granted, take_granted, free_granted, tune_granted, choose_granted, install_granted, remove_granted, fund_granted, bill_granted, fetched, read_ready}
+use Rattle.plain_rules.specs.GrantedCalls.{PieceReady, exit_granted, close_granted, read_granted}
+use Rattle.plain_rules.specs.GrantedCalls.{write_granted, take_granted, free_granted, tune_granted}
+use Rattle.plain_rules.specs.GrantedCalls.{choose_granted, install_granted, remove_granted}
+use Rattle.plain_rules.specs.GrantedCalls.{fund_granted, bill_granted, fetched, read_ready}
 
 -- ---- locks and policies
 

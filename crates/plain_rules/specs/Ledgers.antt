@@ -8,7 +8,8 @@ use Rattle.kernel_model.specs.declared.Kind.{Kind}
 use Rattle.kernel_model.specs.declared.Kind.TheVariants.{Steps, Records, Locks}
 use Rattle.kernel_model.specs.Objects.{Accounts, GraftValue, AcctValue, at, at2, same_kind}
 use Rattle.kernel_model.specs.Charges.{removed, removed_by, returned}
-use Rattle.kernel_model.specs.Pieces.{without_grafts, account_closed, empty_account, joint_account, less, more, accounts_after}
+use Rattle.kernel_model.specs.Pieces.{without_grafts, account_closed, empty_account, joint_account}
+use Rattle.kernel_model.specs.Pieces.{less, more, accounts_after}
 use Rattle.kernel_model.specs.Sound.{sum_below, graft_balance, ledger}
 use Rattle.plain_rules.specs.Exits.{graft_taken}
 

@@ -1,6 +1,8 @@
 -- What a piece needs is what it looks at: agreement on the needed objects, or on those before the
 -- point, is enough.
-use Rattle.std.specs.Prelude.{◌≡◌, ℕ, zero, suc, ◌+◌, ◌-◌, ◌<◌, ◌≤◌, nat_lt, cond, length, take, Bool, true, false, map, List, [], ◌∷◌, ◌++◌, Option, None, Some, is_some, Result, Ok, Err}
+use Rattle.std.specs.Prelude.{◌≡◌, ℕ, zero, suc, ◌+◌, ◌-◌, ◌<◌, ◌≤◌, nat_lt, cond, length, take}
+use Rattle.std.specs.Prelude.{Bool, true, false, map, List, [], ◌∷◌, ◌++◌, Option, None, Some}
+use Rattle.std.specs.Prelude.{is_some, Result, Ok, Err}
 use Rattle.std.specs.List.{range_with_len}
 use Rattle.std.proofs.Common.{arith, refl, subst, ap, ◌∙◌}
 use Rattle.std.proofs.lemmas.Bool.{or_left, or_right, or_parts}
@@ -8,7 +10,10 @@ use Rattle.std.proofs.lemmas.List.{take_at, length-append}
 use Rattle.kernel_model.specs.declared.Object.{Object}
 use Rattle.kernel_model.specs.declared.Object.TheVariants.{Graft, Acct, OpenFile, Queue, Cache, Pol}
 use Rattle.kernel_model.specs.declared.SysCall.{SysCall}
-use Rattle.kernel_model.specs.declared.SysCall.TheVariants.{Spawn, Exit, Yield, OpenName, CloseFd, Read, Write, Sync, TakeLock, FreeLock, Poke, Peek, Tune, Choose, Give, Install, Remove, Fund, Bill}
+use Rattle.kernel_model.specs.declared.SysCall.TheVariants.{Spawn, Exit, Yield, OpenName, CloseFd}
+use Rattle.kernel_model.specs.declared.SysCall.TheVariants.{Read, Write, Sync, TakeLock, FreeLock}
+use Rattle.kernel_model.specs.declared.SysCall.TheVariants.{Poke, Peek, Tune, Choose, Give, Install}
+use Rattle.kernel_model.specs.declared.SysCall.TheVariants.{Remove, Fund, Bill}
 use Rattle.kernel_model.specs.declared.Kind.{Kind}
 use Rattle.kernel_model.specs.declared.Need.{Need}
 use Rattle.kernel_model.specs.declared.Point.{Point}
@@ -19,7 +24,12 @@ use Rattle.kernel_model.specs.World.{World, Blocks, file_named}
 use Rattle.kernel_model.specs.Objects.{Objects, Things, Accounts, GraftValue, CacheValue, SameAt, same_object}
 use Rattle.kernel_model.specs.SameObject.{same_object_self}
 use Rattle.kernel_model.specs.Policies.{lives, next_process}
-use Rattle.kernel_model.specs.Needs.{exclusive, shared, piece_needs, piece_ask, point_needs, payer_needs, payment_needs, fetch_needs, fetch_ask, victim_needs, victim_ask, owner_asked, candidate_for, file_block, ahead_block, free_process, exit_needs, read_ask, read_needs, spawn_needs, yield_needs, yield_ask, slice_needs, slice_ask}
+use Rattle.kernel_model.specs.Needs.{exclusive, shared, piece_needs, piece_ask, point_needs}
+use Rattle.kernel_model.specs.Needs.{payer_needs, payment_needs, fetch_needs, fetch_ask}
+use Rattle.kernel_model.specs.Needs.{victim_needs, victim_ask, owner_asked, candidate_for}
+use Rattle.kernel_model.specs.Needs.{file_block, ahead_block, free_process, exit_needs, read_ask}
+use Rattle.kernel_model.specs.Needs.{read_needs, spawn_needs, yield_needs, yield_ask, slice_needs}
+use Rattle.kernel_model.specs.Needs.{slice_ask}
 use Rattle.kernel_model.specs.FilePieces.{free_descriptor}
 use Rattle.kernel_model.specs.Pieces.{piece_of, new_graft}
 use Rattle.kernel_model.specs.Alike.{AgreeOn, is_needed_exclusively}
@@ -27,8 +37,12 @@ use Rattle.kernel_model.specs.Laws.{before_point}
 use Rattle.plain_rules.specs.Exits.{in_family, needed_from_exclusively, needs_graft}
 use Rattle.plain_rules.specs.FileChanges.{read_leaves, ahead_leaves, write_leaves}
 use Rattle.plain_rules.specs.Changes.{slice_leaves}
-use Rattle.plain_rules.specs.SamePieces.{SamePiece, same_refusal, spawn_same, yield_same, open_same, close_same, take_same, free_same, poke_same, peek_same, tune_same, choose_same, give_same, install_same, remove_same, fund_same, bill_same}
-use Rattle.plain_rules.specs.SameFetches.{FetchAgrees, ReadAgrees, read_piece_same, write_piece_same, sync_same, exit_same}
+use Rattle.plain_rules.specs.SamePieces.{SamePiece, same_refusal, spawn_same, yield_same, open_same}
+use Rattle.plain_rules.specs.SamePieces.{close_same, take_same, free_same, poke_same, peek_same}
+use Rattle.plain_rules.specs.SamePieces.{tune_same, choose_same, give_same, install_same}
+use Rattle.plain_rules.specs.SamePieces.{remove_same, fund_same, bill_same}
+use Rattle.plain_rules.specs.SameFetches.{FetchAgrees, ReadAgrees, read_piece_same}
+use Rattle.plain_rules.specs.SameFetches.{write_piece_same, sync_same, exit_same}
 
 -- ---- agreement on a list
 

@@ -1,6 +1,7 @@
 -- A piece of the system calls that asks a point needs what tells whether an answer of that point is
 -- valid.
-use Rattle.std.specs.Prelude.{◌≡◌, ℕ, zero, suc, ◌+◌, ◌==◌, cond, nat_lt, Bool, true, false, List, [], ◌∷◌, length, Option, Some, None, Result, Ok, Err}
+use Rattle.std.specs.Prelude.{◌≡◌, ℕ, zero, suc, ◌+◌, ◌==◌, cond, nat_lt, Bool, true, false, List}
+use Rattle.std.specs.Prelude.{[], ◌∷◌, length, Option, Some, None, Result, Ok, Err}
 use Rattle.std.specs.List.{AllByRecursion as Each}
 use Rattle.std.specs.Result.{is_ok}
 use Rattle.std.proofs.Common.{arith, refl, subst, sym, ap}
@@ -18,7 +19,9 @@ use Rattle.kernel_model.specs.World.{World, ImageTable}
 use Rattle.kernel_model.specs.Objects.{Objects, same_object}
 use Rattle.kernel_model.specs.Policies.{Ahead, Victim, Next, Serve, Stream, kind_of, next_process}
 use Rattle.kernel_model.specs.Early.{plain_early, refused, begins_unless}
-use Rattle.kernel_model.specs.Needs.{shared, exclusive, fetch_needs, fetch_ask, victim_ask, candidate_for, file_block, ahead_block, yield_needs, yield_ask, slice_ask, read_needs, read_ask, piece_needs, piece_ask}
+use Rattle.kernel_model.specs.Needs.{shared, exclusive, fetch_needs, fetch_ask, victim_ask}
+use Rattle.kernel_model.specs.Needs.{candidate_for, file_block, ahead_block, yield_needs, yield_ask}
+use Rattle.kernel_model.specs.Needs.{slice_ask, read_needs, read_ask, piece_needs, piece_ask}
 use Rattle.kernel_model.specs.Alike.{is_needed}
 use Rattle.kernel_model.specs.Pieces.{plain_upto}
 use Rattle.kernel_model.specs.Laws.{NeedsAnswers, answer_objects}

@@ -1,5 +1,6 @@
 -- The system calls need grafts exclusively.
-use Rattle.std.specs.Prelude.{◌≡◌, ◌⊎◌, ℕ, zero, suc, ◌&&◌, ◌||◌, nat_lt, Bool, true, false, List, [], ◌∷◌, length, Option, Some, None, Result, ⊤}
+use Rattle.std.specs.Prelude.{◌≡◌, ◌⊎◌, ℕ, zero, suc, ◌&&◌, ◌||◌, nat_lt, Bool, true, false, List}
+use Rattle.std.specs.Prelude.{[], ◌∷◌, length, Option, Some, None, Result, ⊤}
 use Rattle.std.specs.List.{AllByRecursion as Each, range_with_len}
 use Rattle.std.proofs.Common.{refl, subst, sym, ap, ◌∙◌, inl, inr}
 use Rattle.std.proofs.lemmas.Bool.{or_left, or_right}
@@ -10,16 +11,22 @@ use Rattle.kernel_model.specs.declared.Object.{Object}
 use Rattle.kernel_model.specs.declared.Object.TheVariants.{Graft, Acct, OpenFile, Lock}
 use Rattle.kernel_model.specs.declared.Refusal.{Refusal}
 use Rattle.kernel_model.specs.declared.SysCall.{SysCall}
-use Rattle.kernel_model.specs.declared.SysCall.TheVariants.{Spawn, Exit, Yield, OpenName, CloseFd, Read, Write, Sync, TakeLock, FreeLock, Poke, Peek, Tune, Choose, Give, Install, Remove, Fund, Bill}
+use Rattle.kernel_model.specs.declared.SysCall.TheVariants.{Spawn, Exit, Yield, OpenName, CloseFd}
+use Rattle.kernel_model.specs.declared.SysCall.TheVariants.{Read, Write, Sync, TakeLock, FreeLock}
+use Rattle.kernel_model.specs.declared.SysCall.TheVariants.{Poke, Peek, Tune, Choose, Give, Install}
+use Rattle.kernel_model.specs.declared.SysCall.TheVariants.{Remove, Fund, Bill}
 use Rattle.kernel_model.specs.World.{World}
 use Rattle.kernel_model.specs.Objects.{Objects, same_object}
 use Rattle.kernel_model.specs.SameObject.{same_object_is}
 use Rattle.kernel_model.specs.Policies.{lives, next_process}
-use Rattle.kernel_model.specs.Needs.{exclusive, free_process, fetch_needs, file_block, ahead_block, spawn_needs, yield_needs, read_needs, payment_needs, give_needs, piece_needs}
+use Rattle.kernel_model.specs.Needs.{exclusive, free_process, fetch_needs, file_block, ahead_block}
+use Rattle.kernel_model.specs.Needs.{spawn_needs, yield_needs, read_needs, payment_needs}
+use Rattle.kernel_model.specs.Needs.{give_needs, piece_needs}
 use Rattle.kernel_model.specs.Alike.{is_exclusive, is_needed, is_needed_exclusively}
 use Rattle.kernel_model.specs.Pieces.{plain_upto}
 use Rattle.kernel_model.specs.Laws.{NeedsGraftsExclusively}
-use Rattle.plain_rules.specs.NeedParts.{each_map, each_either, each_of_point, each_of_slice, each_of_fetch, each_of_exit}
+use Rattle.plain_rules.specs.NeedParts.{each_map, each_either, each_of_point, each_of_slice}
+use Rattle.plain_rules.specs.NeedParts.{each_of_fetch, each_of_exit}
 
 or_cases : (a b : Bool) → (a || b) ≡ true → (a ≡ true) ⊎ (b ≡ true)
 or_cases true b h = inl refl

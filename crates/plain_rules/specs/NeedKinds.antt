@@ -1,6 +1,7 @@
 -- Whose the open files are that a piece needs, where a user lock's holder hinders, and how many
 -- objects there are.
-use Rattle.std.specs.Prelude.{◌≡◌, ℕ, zero, suc, ◌≤◌, Bool, true, false, cond, nat_lt, List, [], ◌∷◌, length, Option, Some, None, Result, Ok, Err}
+use Rattle.std.specs.Prelude.{◌≡◌, ℕ, zero, suc, ◌≤◌, Bool, true, false, cond, nat_lt, List, []}
+use Rattle.std.specs.Prelude.{◌∷◌, length, Option, Some, None, Result, Ok, Err}
 use Rattle.std.specs.List.{AllByRecursion as Each, range_with_len}
 use Rattle.std.proofs.Common.{arith, refl, sym, ◌∙◌}
 use Rattle.kernel_model.specs.declared.Need.{Need}
@@ -9,13 +10,21 @@ use Rattle.kernel_model.specs.declared.Object.{Object}
 use Rattle.kernel_model.specs.declared.Object.TheVariants.{Graft, Acct, OpenFile, Cache, Lock, Pol}
 use Rattle.kernel_model.specs.declared.Refusal.{Refusal}
 use Rattle.kernel_model.specs.declared.SysCall.{SysCall}
-use Rattle.kernel_model.specs.declared.SysCall.TheVariants.{Spawn, Exit, Yield, OpenName, CloseFd, Read, Write, Sync, TakeLock, FreeLock, Poke, Peek, Tune, Choose, Give, Install, Remove, Fund, Bill}
+use Rattle.kernel_model.specs.declared.SysCall.TheVariants.{Spawn, Exit, Yield, OpenName, CloseFd}
+use Rattle.kernel_model.specs.declared.SysCall.TheVariants.{Read, Write, Sync, TakeLock, FreeLock}
+use Rattle.kernel_model.specs.declared.SysCall.TheVariants.{Poke, Peek, Tune, Choose, Give, Install}
+use Rattle.kernel_model.specs.declared.SysCall.TheVariants.{Remove, Fund, Bill}
 use Rattle.kernel_model.specs.World.{World}
 use Rattle.kernel_model.specs.Objects.{Objects, Accounts, CacheValue, GraftValue}
 use Rattle.kernel_model.specs.Policies.{lives, next_process}
-use Rattle.kernel_model.specs.Needs.{exclusive, point_needs, payer_needs, free_process, victim_needs, owner_asked, fetch_needs, candidate_for, file_block, ahead_block, spawn_needs, exit_needs, slice_needs, yield_needs, read_needs, payment_needs, give_needs, piece_needs}
+use Rattle.kernel_model.specs.Needs.{exclusive, point_needs, payer_needs, free_process}
+use Rattle.kernel_model.specs.Needs.{victim_needs, owner_asked, fetch_needs, candidate_for}
+use Rattle.kernel_model.specs.Needs.{file_block, ahead_block, spawn_needs, exit_needs, slice_needs}
+use Rattle.kernel_model.specs.Needs.{yield_needs, read_needs, payment_needs, give_needs}
+use Rattle.kernel_model.specs.Needs.{piece_needs}
 use Rattle.kernel_model.specs.Laws.{IsOwnFile, waits_for_user}
-use Rattle.plain_rules.specs.NeedParts.{each_map, each_either, each_of_point, each_of_slice, each_of_fetch, each_of_exit}
+use Rattle.plain_rules.specs.NeedParts.{each_map, each_either, each_of_point, each_of_slice}
+use Rattle.plain_rules.specs.NeedParts.{each_of_fetch, each_of_exit}
 
 -- an open file that is needed is the caller's, and the holder of a user lock hinders only a call
 -- that waits for one

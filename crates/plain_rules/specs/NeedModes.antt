@@ -1,5 +1,6 @@
 -- The system calls need each object in one mode.
-use Rattle.std.specs.Prelude.{◌≡◌, ℕ, zero, suc, ◌==◌, ◌||◌, nat_lt, Bool, true, false, cond, List, [], ◌∷◌, ◌++◌, length, map, Option, Some, None, Result, Ok, Err}
+use Rattle.std.specs.Prelude.{◌≡◌, ℕ, zero, suc, ◌==◌, ◌||◌, nat_lt, Bool, true, false, cond, List}
+use Rattle.std.specs.Prelude.{[], ◌∷◌, ◌++◌, length, map, Option, Some, None, Result, Ok, Err}
 use Rattle.std.specs.List.{AllByRecursion as Each, range_with_len}
 use Rattle.std.proofs.Common.{refl, subst, sym, ap, ◌∙◌, inl, inr}
 use Rattle.std.proofs.lemmas.Bool.{cases_Bool}
@@ -11,12 +12,19 @@ use Rattle.kernel_model.specs.declared.Object.{Object}
 use Rattle.kernel_model.specs.declared.Object.TheVariants.{Graft, Acct, OpenFile, Cache, Lock, Pol}
 use Rattle.kernel_model.specs.declared.Refusal.{Refusal}
 use Rattle.kernel_model.specs.declared.SysCall.{SysCall}
-use Rattle.kernel_model.specs.declared.SysCall.TheVariants.{Spawn, Exit, Yield, OpenName, CloseFd, Read, Write, Sync, TakeLock, FreeLock, Poke, Peek, Tune, Choose, Give, Install, Remove, Fund, Bill}
+use Rattle.kernel_model.specs.declared.SysCall.TheVariants.{Spawn, Exit, Yield, OpenName, CloseFd}
+use Rattle.kernel_model.specs.declared.SysCall.TheVariants.{Read, Write, Sync, TakeLock, FreeLock}
+use Rattle.kernel_model.specs.declared.SysCall.TheVariants.{Poke, Peek, Tune, Choose, Give, Install}
+use Rattle.kernel_model.specs.declared.SysCall.TheVariants.{Remove, Fund, Bill}
 use Rattle.kernel_model.specs.World.{World}
 use Rattle.kernel_model.specs.Objects.{Objects, Accounts, GraftValue, CacheValue, same_object}
 use Rattle.kernel_model.specs.SameObject.{same_object_is, same_object_self}
 use Rattle.kernel_model.specs.Policies.{next_process, lives}
-use Rattle.kernel_model.specs.Needs.{shared, exclusive, payer_needs, point_needs, free_process, file_block, ahead_block, candidate_for, owner_asked, victim_needs, fetch_needs, spawn_needs, exit_needs, slice_needs, yield_needs, read_needs, payment_needs, give_needs, piece_needs}
+use Rattle.kernel_model.specs.Needs.{shared, exclusive, payer_needs, point_needs, free_process}
+use Rattle.kernel_model.specs.Needs.{file_block, ahead_block, candidate_for, owner_asked}
+use Rattle.kernel_model.specs.Needs.{victim_needs, fetch_needs, spawn_needs, exit_needs}
+use Rattle.kernel_model.specs.Needs.{slice_needs, yield_needs, read_needs, payment_needs}
+use Rattle.kernel_model.specs.Needs.{give_needs, piece_needs}
 use Rattle.kernel_model.specs.Events.{object_kind, wanted}
 use Rattle.kernel_model.specs.Pieces.{plain_upto}
 use Rattle.kernel_model.specs.Laws.{NeedsHaveOneMode}

@@ -1,5 +1,6 @@
 -- States that agree on the first objects that a piece needs have the same next one.
-use Rattle.std.specs.Prelude.{◌≡◌, ℕ, zero, suc, Bool, true, false, cond, nat_lt, List, [], ◌∷◌, take, length, Option, Some, None, is_some, Result, Ok, Err, ⊤}
+use Rattle.std.specs.Prelude.{◌≡◌, ℕ, zero, suc, Bool, true, false, cond, nat_lt, List, [], ◌∷◌}
+use Rattle.std.specs.Prelude.{take, length, Option, Some, None, is_some, Result, Ok, Err, ⊤}
 use Rattle.std.proofs.Common.{refl, ap, subst, ◌∙◌}
 use Rattle.std.proofs.lemmas.Bool.{or_left, or_right}
 use Rattle.kernel_model.specs.declared.Need.{Need}
@@ -12,7 +13,10 @@ use Rattle.kernel_model.specs.World.{World}
 use Rattle.kernel_model.specs.Objects.{Objects, CacheValue, SameAt, same_object}
 use Rattle.kernel_model.specs.SameObject.{same_object_self}
 use Rattle.kernel_model.specs.Policies.{lives, next_process}
-use Rattle.kernel_model.specs.Needs.{exclusive, point_needs, payer_needs, free_process, victim_needs, owner_asked, fetch_needs, candidate_for, file_block, ahead_block, spawn_needs, slice_needs, yield_needs, read_needs, payment_needs, give_needs, piece_needs}
+use Rattle.kernel_model.specs.Needs.{exclusive, point_needs, payer_needs, free_process}
+use Rattle.kernel_model.specs.Needs.{victim_needs, owner_asked, fetch_needs, candidate_for}
+use Rattle.kernel_model.specs.Needs.{file_block, ahead_block, spawn_needs, slice_needs, yield_needs}
+use Rattle.kernel_model.specs.Needs.{read_needs, payment_needs, give_needs, piece_needs}
 use Rattle.kernel_model.specs.Alike.{AgreeOn, is_needed}
 use Rattle.plain_rules.specs.Candidates.{candidate_stands}
 

@@ -1,5 +1,6 @@
 -- What holds of each object that a piece needs, part by part.
-use Rattle.std.specs.Prelude.{◌≡◌, ℕ, Bool, true, false, cond, List, [], ◌∷◌, ◌++◌, map, Option, Some, None, Result, Ok, Err, Contains}
+use Rattle.std.specs.Prelude.{◌≡◌, ℕ, Bool, true, false, cond, List, [], ◌∷◌, ◌++◌, map, Option}
+use Rattle.std.specs.Prelude.{Some, None, Result, Ok, Err, Contains}
 use Rattle.std.specs.List.{AllByRecursion as Each, range_with_len}
 use Rattle.std.proofs.Common.{refl}
 use Rattle.std.proofs.lemmas.List.Elements.{All-contains, All-from_recursion}
@@ -9,7 +10,9 @@ use Rattle.kernel_model.specs.declared.Object.TheVariants.{Graft, Acct, OpenFile
 use Rattle.kernel_model.specs.declared.Object.{Object}
 use Rattle.kernel_model.specs.World.{World}
 use Rattle.kernel_model.specs.Objects.{Objects, Accounts, CacheValue, GraftValue}
-use Rattle.kernel_model.specs.Needs.{shared, exclusive, point_needs, payer_needs, victim_needs, owner_asked, fetch_needs, candidate_for, exit_needs, slice_needs}
+use Rattle.kernel_model.specs.Needs.{shared, exclusive, point_needs, payer_needs, victim_needs}
+use Rattle.kernel_model.specs.Needs.{owner_asked, fetch_needs, candidate_for, exit_needs}
+use Rattle.kernel_model.specs.Needs.{slice_needs}
 
 -- what holds of each of a list holds of what the list contains
 pub each_contains : (P : Need → Type 0) (ns : List Need) (n : Need) → Each P ns → Contains ns n →

@@ -1,5 +1,6 @@
 -- The numbers of the objects that a piece needs are in their ranges.
-use Rattle.std.specs.Prelude.{◌≡◌, ℕ, zero, suc, ◌+◌, ◌<◌, not, ◌||◌, ◌==◌, nat_lt, nat_le, [], ◌∷◌, length, Option, Some, None, is_some, Result}
+use Rattle.std.specs.Prelude.{◌≡◌, ℕ, zero, suc, ◌+◌, ◌<◌, not, ◌||◌, ◌==◌, nat_lt, nat_le, [], ◌∷◌}
+use Rattle.std.specs.Prelude.{length, Option, Some, None, is_some, Result}
 use Rattle.std.specs.List.{AllByRecursion as Each, range_with_len}
 use Rattle.std.proofs.Common.{arith, refl}
 use Rattle.std.proofs.lemmas.Bool.{or_parts}
@@ -9,17 +10,23 @@ use Rattle.kernel_model.specs.declared.Object.TheVariants.{Acct, OpenFile}
 use Rattle.kernel_model.specs.declared.Refusal.{Refusal}
 use Rattle.kernel_model.specs.declared.Refusal.TheVariants.{NoProcess, Denied, BadPoint, BadFd, BadIndex, NoImage}
 use Rattle.kernel_model.specs.declared.SysCall.{SysCall}
-use Rattle.kernel_model.specs.declared.SysCall.TheVariants.{Spawn, Exit, Yield, OpenName, CloseFd, Read, Write, Sync, TakeLock, FreeLock, Poke, Peek, Tune, Choose, Give, Install, Remove, Fund, Bill}
+use Rattle.kernel_model.specs.declared.SysCall.TheVariants.{Spawn, Exit, Yield, OpenName, CloseFd}
+use Rattle.kernel_model.specs.declared.SysCall.TheVariants.{Read, Write, Sync, TakeLock, FreeLock}
+use Rattle.kernel_model.specs.declared.SysCall.TheVariants.{Poke, Peek, Tune, Choose, Give, Install}
+use Rattle.kernel_model.specs.declared.SysCall.TheVariants.{Remove, Fund, Bill}
 use Rattle.kernel_model.specs.World.{World, ImageTable}
 use Rattle.kernel_model.specs.Objects.{Objects}
 use Rattle.kernel_model.specs.Policies.{lives, next_process}
 use Rattle.kernel_model.specs.Early.{policy_count, refused}
-use Rattle.kernel_model.specs.Needs.{exclusive, free_process, fetch_needs, file_block, ahead_block, spawn_needs, exit_needs, yield_needs, read_needs, payment_needs, give_needs, piece_needs}
+use Rattle.kernel_model.specs.Needs.{exclusive, free_process, fetch_needs, file_block, ahead_block}
+use Rattle.kernel_model.specs.Needs.{spawn_needs, exit_needs, yield_needs, read_needs}
+use Rattle.kernel_model.specs.Needs.{payment_needs, give_needs, piece_needs}
 use Rattle.kernel_model.specs.Sound.{IsSoundStore}
 use Rattle.kernel_model.specs.Laws.{IsInRange}
 use Rattle.plain_rules.specs.GrantedCalls.{PieceStands}
 use Rattle.plain_rules.specs.Granted.{granted_unless, granted_next, granted_below, below_next}
-use Rattle.plain_rules.specs.NeedParts.{each_map, each_either, each_of_point, each_of_slice, each_of_fetch, each_of_exit}
+use Rattle.plain_rules.specs.NeedParts.{each_map, each_either, each_of_point, each_of_slice}
+use Rattle.plain_rules.specs.NeedParts.{each_of_fetch, each_of_exit}
 use Rattle.plain_rules.specs.Numbers.{free_process_below, next_below, owner_below}
 
 -- the numbers of a needed object are in their ranges

@@ -6,7 +6,10 @@ use Rattle.kernel_model.specs.declared.Kind.{Kind}
 use Rattle.kernel_model.specs.declared.Refusal.{Refusal}
 use Rattle.kernel_model.specs.declared.Refusal.TheVariants.{DiskFault}
 use Rattle.kernel_model.specs.declared.SysCall.{SysCall}
-use Rattle.kernel_model.specs.declared.SysCall.TheVariants.{Spawn, Exit, Yield, OpenName, CloseFd, Read, Write, Sync, TakeLock, FreeLock, Poke, Peek, Tune, Choose, Give, Install, Remove, Fund, Bill}
+use Rattle.kernel_model.specs.declared.SysCall.TheVariants.{Spawn, Exit, Yield, OpenName, CloseFd}
+use Rattle.kernel_model.specs.declared.SysCall.TheVariants.{Read, Write, Sync, TakeLock, FreeLock}
+use Rattle.kernel_model.specs.declared.SysCall.TheVariants.{Poke, Peek, Tune, Choose, Give, Install}
+use Rattle.kernel_model.specs.declared.SysCall.TheVariants.{Remove, Fund, Bill}
 use Rattle.kernel_model.specs.declared.OpenRow.{OpenRow}
 use Rattle.kernel_model.specs.World.{World, Blocks, file_named}
 use Rattle.kernel_model.specs.Objects.{Objects, GraftValue}
@@ -15,7 +18,9 @@ use Rattle.kernel_model.specs.Access.{param_top, in_range}
 use Rattle.kernel_model.specs.Meaning.{Piece, After, Fails}
 use Rattle.kernel_model.specs.Needs.{free_process}
 use Rattle.kernel_model.specs.FilePieces.{free_descriptor, open_piece, close_piece}
-use Rattle.kernel_model.specs.Pieces.{spawn_piece, lock_piece, unlock_piece, tune_piece, pay_piece, give_piece, new_graft, install_piece, remove_piece, fund_piece, bill_piece, piece_of}
+use Rattle.kernel_model.specs.Pieces.{spawn_piece, lock_piece, unlock_piece, tune_piece, pay_piece}
+use Rattle.kernel_model.specs.Pieces.{give_piece, new_graft, install_piece, remove_piece}
+use Rattle.kernel_model.specs.Pieces.{fund_piece, bill_piece, piece_of}
 use Rattle.kernel_model.specs.Laws.{continues}
 
 -- a refusal is that of a failed call of the disk

@@ -1,11 +1,15 @@
 -- A piece that is refused leaves the state and the disk as they were, but for a `sync`.
-use Rattle.std.specs.Prelude.{◌≡◌, ◌≢◌, ℕ, zero, suc, ◌-◌, Bool, true, false, nat_lt, ◌==◌, List, length, Option, Some, None, Result, Ok, Err}
+use Rattle.std.specs.Prelude.{◌≡◌, ◌≢◌, ℕ, zero, suc, ◌-◌, Bool, true, false, nat_lt, ◌==◌, List}
+use Rattle.std.specs.Prelude.{length, Option, Some, None, Result, Ok, Err}
 use Rattle.std.proofs.Common.{refl, subst, sym}
 use Rattle.kernel_model.specs.declared.Kind.{Kind}
 use Rattle.kernel_model.specs.declared.Refusal.{Refusal}
 use Rattle.kernel_model.specs.declared.Refusal.TheVariants.{BadPoint, BadIndex, NotHeld, Short}
 use Rattle.kernel_model.specs.declared.SysCall.{SysCall}
-use Rattle.kernel_model.specs.declared.SysCall.TheVariants.{Spawn, Exit, Yield, OpenName, CloseFd, Read, Write, Sync, TakeLock, FreeLock, Poke, Peek, Tune, Choose, Give, Install, Remove, Fund, Bill}
+use Rattle.kernel_model.specs.declared.SysCall.TheVariants.{Spawn, Exit, Yield, OpenName, CloseFd}
+use Rattle.kernel_model.specs.declared.SysCall.TheVariants.{Read, Write, Sync, TakeLock, FreeLock}
+use Rattle.kernel_model.specs.declared.SysCall.TheVariants.{Poke, Peek, Tune, Choose, Give, Install}
+use Rattle.kernel_model.specs.declared.SysCall.TheVariants.{Remove, Fund, Bill}
 use Rattle.kernel_model.specs.declared.OpenRow.{OpenRow}
 use Rattle.kernel_model.specs.World.{World, Blocks, file_named}
 use Rattle.kernel_model.specs.Objects.{Objects, GraftValue, with_accounts, with_things}
@@ -14,8 +18,14 @@ use Rattle.kernel_model.specs.Access.{param_top, in_range, set_param}
 use Rattle.kernel_model.specs.Meaning.{Stage, stage, Piece, After, Fails}
 use Rattle.kernel_model.specs.Needs.{free_process, file_block, ahead_block}
 use Rattle.kernel_model.specs.Fetch.{Fetched, Got, Failed, fetch, fetch_ahead}
-use Rattle.kernel_model.specs.FilePieces.{leaves, refuses, well, unless_zero, free_descriptor, open_piece, close_piece, read_first, read_second, read_third, ahead_by, read_first_at, read_third_at, read_piece, write_fetched, write_piece}
-use Rattle.kernel_model.specs.Pieces.{spawn_piece, yield_piece, lock_piece, unlock_piece, with_holder, tune_piece, pay_piece, give_piece, new_graft, install_piece, remove_piece, accounts_funded, fund_piece, bill_piece, piece_of}
+use Rattle.kernel_model.specs.FilePieces.{leaves, refuses, well, unless_zero, free_descriptor}
+use Rattle.kernel_model.specs.FilePieces.{open_piece, close_piece, read_first, read_second}
+use Rattle.kernel_model.specs.FilePieces.{read_third, ahead_by, read_first_at, read_third_at}
+use Rattle.kernel_model.specs.FilePieces.{read_piece, write_fetched, write_piece}
+use Rattle.kernel_model.specs.Pieces.{spawn_piece, yield_piece, lock_piece, unlock_piece}
+use Rattle.kernel_model.specs.Pieces.{with_holder, tune_piece, pay_piece, give_piece, new_graft}
+use Rattle.kernel_model.specs.Pieces.{install_piece, remove_piece, accounts_funded, fund_piece}
+use Rattle.kernel_model.specs.Pieces.{bill_piece, piece_of}
 
 -- a call that is refused
 abbrev pub is_refusal : After → Bool

@@ -9,7 +9,9 @@ use Rattle.kernel_model.specs.Objects.{Objects, CacheValue, FrameValue, at}
 use Rattle.kernel_model.specs.Meaning.{Piece, disk_fails}
 use Rattle.kernel_model.specs.Needs.{file_block, ahead_block}
 use Rattle.kernel_model.specs.Fetch.{Fetched, Got, Failed, fetch, fetch_ahead, cleaned, dirty_value}
-use Rattle.kernel_model.specs.FilePieces.{with_cache, disk_failed, open_piece, close_piece, read_piece, read_first, read_third, read_first_at, read_third_at, write_fetched, write_piece, sync_from}
+use Rattle.kernel_model.specs.FilePieces.{with_cache, disk_failed, open_piece, close_piece}
+use Rattle.kernel_model.specs.FilePieces.{read_piece, read_first, read_third, read_first_at}
+use Rattle.kernel_model.specs.FilePieces.{read_third_at, write_fetched, write_piece, sync_from}
 use Rattle.kernel_model.specs.Pieces.{spawn_piece, yield_piece, lock_piece, unlock_piece, tune_piece}
 
 -- a piece leaves grafts and accounts, and the processes in their order

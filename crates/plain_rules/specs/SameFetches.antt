@@ -1,5 +1,6 @@
 -- Fetches, reads, writes, syncs and exits do the same on two states that agree on what they need.
-use Rattle.std.specs.Prelude.{◌≡◌, ℕ, zero, suc, ◌<◌, Bool, true, false, List, [], ◌∷◌, Option, None, Some, is_some, Result, Ok, Err, filter, not, ◌==◌}
+use Rattle.std.specs.Prelude.{◌≡◌, ℕ, zero, suc, ◌<◌, Bool, true, false, List, [], ◌∷◌, Option}
+use Rattle.std.specs.Prelude.{None, Some, is_some, Result, Ok, Err, filter, not, ◌==◌}
 use Rattle.std.proofs.Common.{arith, refl, subst, ap, ◌∙◌}
 use Rattle.std.proofs.lemmas.Bool.Decides.{nat_tests}
 use Rattle.kernel_model.specs.declared.Object.{Object}
@@ -12,13 +13,17 @@ use Rattle.kernel_model.specs.Policies.{least, or_zero, victim_key, victim_among
 use Rattle.kernel_model.specs.Meaning.{Piece, disk_fails}
 use Rattle.kernel_model.specs.Charges.{removed, removed_by}
 use Rattle.kernel_model.specs.Needs.{candidate_by, candidate_for, frame_of_block, free_frame, file_block, ahead_block}
-use Rattle.kernel_model.specs.Fetch.{Fetched, Failed, fetch, fetch_by, fetch_ahead, fetch_ahead_by, read_block, place_block, chosen_by, cleaned, dirty_value}
-use Rattle.kernel_model.specs.FilePieces.{with_cache, read_piece, ahead_by, disk_failed, read_first, read_third, read_first_at, read_third_at, write_piece, write_fetched, sync_from}
+use Rattle.kernel_model.specs.Fetch.{Fetched, Failed, fetch, fetch_by, fetch_ahead, fetch_ahead_by}
+use Rattle.kernel_model.specs.Fetch.{read_block, place_block, chosen_by, cleaned, dirty_value}
+use Rattle.kernel_model.specs.FilePieces.{with_cache, read_piece, ahead_by, disk_failed, read_first}
+use Rattle.kernel_model.specs.FilePieces.{read_third, read_first_at, read_third_at, write_piece}
+use Rattle.kernel_model.specs.FilePieces.{write_fetched, sync_from}
 use Rattle.kernel_model.specs.declared.QueueRow.{QueueRow}
 use Rattle.kernel_model.specs.Handlers.{handlers_without_process}
 use Rattle.kernel_model.specs.Pieces.{without_grafts, account_closed, exit_piece, things_without}
 use Rattle.kernel_model.specs.Alike.{Keeps}
-use Rattle.plain_rules.specs.SamePieces.{SamePiece, same_refusal, read_first_same, read_second_same, read_third_same, write_same}
+use Rattle.plain_rules.specs.SamePieces.{SamePiece, same_refusal, read_first_same, read_second_same}
+use Rattle.plain_rules.specs.SamePieces.{read_third_same, write_same}
 
 -- there is a candidate for eviction whatever the policy says, or for none
 least_is_some : (k l : ℕ → ℕ) (xs : List ℕ) → is_some (least k xs) ≡ is_some (least l xs)

@@ -11,8 +11,11 @@ use Rattle.kernel_model.specs.Objects.{Objects, GraftValue}
 use Rattle.kernel_model.specs.Meaning.{Piece, After, EndsWith}
 use Rattle.kernel_model.specs.declared.Reply.TheVariants.{One}
 use Rattle.kernel_model.specs.Fetch.{Fetched}
-use Rattle.kernel_model.specs.FilePieces.{leaves, refuses, open_piece, close_piece, read_first, read_second, read_third, write_fetched}
-use Rattle.kernel_model.specs.Pieces.{spawn_piece, yield_piece, poke_piece, lock_piece, unlock_piece, tune_piece, choose_piece, give_piece, install_piece, remove_piece, fund_piece, bill_piece}
+use Rattle.kernel_model.specs.FilePieces.{leaves, refuses, open_piece, close_piece, read_first}
+use Rattle.kernel_model.specs.FilePieces.{read_second, read_third, write_fetched}
+use Rattle.kernel_model.specs.Pieces.{spawn_piece, yield_piece, poke_piece, lock_piece}
+use Rattle.kernel_model.specs.Pieces.{unlock_piece, tune_piece, choose_piece, give_piece}
+use Rattle.kernel_model.specs.Pieces.{install_piece, remove_piece, fund_piece, bill_piece}
 use Rattle.kernel_model.specs.Alike.{Keeps}
 
 -- two pieces do the same: where the states before were the same they are so after, and all else is

@@ -11,10 +11,13 @@ use Rattle.kernel_model.specs.Policies.{lives}
 use Rattle.kernel_model.specs.declared.Refusal.TheVariants.{Short}
 use Rattle.kernel_model.specs.Meaning.{Piece}
 use Rattle.kernel_model.specs.FilePieces.{leaves, refuses, well}
-use Rattle.kernel_model.specs.Pieces.{give_piece, pay_piece, install_piece, remove_piece, fund_piece, bill_piece, less, more, accounts_after, funded, accounts_funded, with_graft, new_graft}
+use Rattle.kernel_model.specs.Pieces.{give_piece, pay_piece, install_piece, remove_piece}
+use Rattle.kernel_model.specs.Pieces.{fund_piece, bill_piece, less, more, accounts_after, funded}
+use Rattle.kernel_model.specs.Pieces.{accounts_funded, with_graft, new_graft}
 use Rattle.kernel_model.specs.Sound.{IsSoundStore, ledger, graft_balance}
 use Rattle.plain_rules.specs.SoundStores.{store_with_accounts, store_without_segment, not_gone}
-use Rattle.plain_rules.specs.Ledgers.{sum_same, less_balance, more_balance, give_ledger, graft_ledger, exchange_ledger, at_other}
+use Rattle.plain_rules.specs.Ledgers.{sum_same, less_balance, more_balance, give_ledger}
+use Rattle.plain_rules.specs.Ledgers.{graft_ledger, exchange_ledger, at_other}
 
 -- ---- gifts
 

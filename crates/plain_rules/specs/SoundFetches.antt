@@ -1,5 +1,6 @@
 -- A fetch keeps the cache sound, its blocks on the disk, and the disk's blocks whole.
-use Rattle.std.specs.Prelude.{◌≡◌, ◌≢◌, ℕ, ◌<◌, ◌≤◌, ◌==◌, Bool, true, length, List, Option, None, Some, is_some, slice_index}
+use Rattle.std.specs.Prelude.{◌≡◌, ◌≢◌, ℕ, ◌<◌, ◌≤◌, ◌==◌, Bool, true, length, List, Option, None}
+use Rattle.std.specs.Prelude.{Some, is_some, slice_index}
 use Rattle.std.proofs.Common.{arith, refl, subst, sym, ap, ◌∙◌, inl, inr}
 use Rattle.std.proofs.lemmas.Bool.{cases_Bool, cond-true, cond-false}
 use Rattle.kernel_model.specs.declared.QueueRow.{QueueRow}
@@ -11,7 +12,9 @@ use Rattle.kernel_model.specs.Fetch.{fetch, fetch_ahead, chosen_by, swapped, fil
 use Rattle.kernel_model.specs.Sound.{IsSoundFrame, count_of, HasWholeBlocks}
 use Rattle.plain_rules.specs.FreeNumbers.{free_frame_is, no_free_frame}
 use Rattle.plain_rules.specs.SoundCaches.{IsSoundCache, sound_used, sound_filled, sound_swapped, filled_at}
-use Rattle.plain_rules.specs.FetchCases.{listed_in_use, in_use_listed, least_listed, no_candidate, found_in_use, not_found, AllGot, candidate_of, ReadCases, fetch_all, ahead_all}
+use Rattle.plain_rules.specs.FetchCases.{listed_in_use, in_use_listed, least_listed, no_candidate}
+use Rattle.plain_rules.specs.FetchCases.{found_in_use, not_found, AllGot, candidate_of, ReadCases}
+use Rattle.plain_rules.specs.FetchCases.{fetch_all, ahead_all}
 
 -- ---- a sound cache
 

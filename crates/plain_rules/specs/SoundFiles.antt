@@ -1,6 +1,8 @@
 -- A store stays sound when files are opened, closed, read and written; the blocks that reads and
 -- writes fetch are on the disk.
-use Rattle.std.specs.Prelude.{◌≡◌, ℕ, zero, suc, ◌+◌, ◌-◌, ◌<◌, ◌≤◌, min, nat_lt, Bool, true, false, cond, length, List, [], ◌∷◌, Option, None, Some, is_some, Result, Ok, Err, slice_index, slice_index_or}
+use Rattle.std.specs.Prelude.{◌≡◌, ℕ, zero, suc, ◌+◌, ◌-◌, ◌<◌, ◌≤◌, min, nat_lt, Bool, true, false}
+use Rattle.std.specs.Prelude.{cond, length, List, [], ◌∷◌, Option, None, Some, is_some, Result, Ok}
+use Rattle.std.specs.Prelude.{Err, slice_index, slice_index_or}
 use Rattle.std.proofs.Common.{arith, refl, subst, sym, ap, ◌∙◌}
 use Rattle.std.proofs.lemmas.Bool.{and_parts, ltb-true}
 use Rattle.std.proofs.lemmas.Bool.Decides.{nat_tests}
@@ -10,9 +12,13 @@ use Rattle.kernel_model.specs.declared.Refusal.{Refusal}
 use Rattle.kernel_model.specs.World.{World, Blocks, file_row, blocks_of, block_of, entry_named, file_named, same_bytes}
 use Rattle.kernel_model.specs.Objects.{Objects, CacheValue, PolValue}
 use Rattle.kernel_model.specs.Policies.{lives, ahead_default, ahead_count}
-use Rattle.kernel_model.specs.Needs.{file_block, file_block_in, is_within, ahead_block, candidate_for, fetch_ask, victim_ask}
+use Rattle.kernel_model.specs.Needs.{file_block, file_block_in, is_within, ahead_block}
+use Rattle.kernel_model.specs.Needs.{candidate_for, fetch_ask, victim_ask}
 use Rattle.kernel_model.specs.Fetch.{Fetched, Got, Failed, fetch, fetch_ahead, with_patch}
-use Rattle.kernel_model.specs.FilePieces.{with_cache, with_file, new_file, open_piece, close_piece, read_on, with_ahead, ahead_by, read_piece, read_first, read_second, read_third, read_first_at, read_third_at, write_fetched, write_piece, free_descriptor}
+use Rattle.kernel_model.specs.FilePieces.{with_cache, with_file, new_file, open_piece, close_piece}
+use Rattle.kernel_model.specs.FilePieces.{read_on, with_ahead, ahead_by, read_piece, read_first}
+use Rattle.kernel_model.specs.FilePieces.{read_second, read_third, read_first_at, read_third_at}
+use Rattle.kernel_model.specs.FilePieces.{write_fetched, write_piece, free_descriptor}
 use Rattle.kernel_model.specs.Sound.{IsSoundStore, IsSoundWorld, IsSoundFile, FitsDisk}
 use Rattle.kernel_model.specs.Laws.{IsRightAnswer}
 use Rattle.plain_rules.specs.FreeNumbers.{free_descriptor_is}

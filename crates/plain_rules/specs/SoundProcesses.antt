@@ -1,8 +1,11 @@
 -- A store stays sound when a process comes, leaves or yields.
-use Rattle.std.specs.Prelude.{◌≡◌, ◌≢◌, ℕ, zero, suc, ◌<◌, ◌==◌, true, false, cond, not, List, [], ◌∷◌, ◌++◌, Option, None, Some}
+use Rattle.std.specs.Prelude.{◌≡◌, ◌≢◌, ℕ, zero, suc, ◌<◌, ◌==◌, true, false, cond, not, List, []}
+use Rattle.std.specs.Prelude.{◌∷◌, ◌++◌, Option, None, Some}
 use Rattle.std.specs.List.{list_any}
 use Rattle.std.proofs.Common.{◌⊎◌, arith, refl, subst, sym, ap, ◌∙◌, inl, inr}
-use Rattle.std.proofs.lemmas.Bool.{cases_Bool, cases_eq, cases_lt, cond-true, cond-false, eqb-false, eq-eqb, ne_eqb, true≢false, false≢true, or_left, or_parts, and_parts}
+use Rattle.std.proofs.lemmas.Bool.{cases_Bool, cases_eq, cases_lt, cond-true, cond-false, eqb-false}
+use Rattle.std.proofs.lemmas.Bool.{eq-eqb, ne_eqb, true≢false, false≢true, or_left, or_parts}
+use Rattle.std.proofs.lemmas.Bool.{and_parts}
 use Rattle.std.proofs.lemmas.Map.Views.{any-filter_same}
 use Rattle.std.proofs.lemmas.Bool.Decides.{nat_tests}
 use Rattle.kernel_model.specs.declared.QueueRow.{QueueRow}
@@ -12,12 +15,17 @@ use Rattle.kernel_model.specs.Handlers.{is_handler, handlers_without_process, ha
 use Rattle.kernel_model.specs.Policies.{lives, next_process, or_zero}
 use Rattle.kernel_model.specs.Needs.{free_process}
 use Rattle.kernel_model.specs.Fetch.{chosen_by}
-use Rattle.kernel_model.specs.Pieces.{with_queue, spawn_piece, exit_piece, yield_piece, handed_over, freed_by, without_grafts, account_closed, empty_account, to_back, add_slice}
+use Rattle.kernel_model.specs.Pieces.{with_queue, spawn_piece, exit_piece, yield_piece, handed_over}
+use Rattle.kernel_model.specs.Pieces.{freed_by, without_grafts, account_closed, empty_account}
+use Rattle.kernel_model.specs.Pieces.{to_back, add_slice}
 use Rattle.kernel_model.specs.Sound.{IsSoundStore, IsSoundFrame, IsGone, count_of, once_if, in_queue}
 use Rattle.plain_rules.specs.FreeNumbers.{IsFreeProcess, free_process_is}
 use Rattle.plain_rules.specs.Exits.{graft_of_another, account_of_another, graft_above, graft_taken}
 use Rattle.plain_rules.specs.Changes.{closed_account}
-use Rattle.plain_rules.specs.Rows.{of_others, lives_append, lives_others, lives_to_back, lives_add_slice, count_append, count_others, count_to_back, count_add_slice, nices_push, nices_others, nices_to_back, nices_add_slice}
+use Rattle.plain_rules.specs.Rows.{of_others, lives_append, lives_others, lives_to_back}
+use Rattle.plain_rules.specs.Rows.{lives_add_slice, count_append, count_others, count_to_back}
+use Rattle.plain_rules.specs.Rows.{count_add_slice, nices_push, nices_others, nices_to_back}
+use Rattle.plain_rules.specs.Rows.{nices_add_slice}
 use Rattle.plain_rules.specs.SoundCaches.{cache_of_store, sound_reframed, block_at}
 use Rattle.plain_rules.specs.SoundStores.{store_with_queue}
 use Rattle.plain_rules.specs.Ledgers.{exit_ledger}

@@ -2,18 +2,21 @@
 -- cell, a lock, a policy, a kept segment, accounts and grafts.
 use Rattle.std.specs.Prelude.{◌≡◌, ◌≢◌, ℕ, ◌<◌, ◌==◌, ◌&&◌, true, false, List, Option, None, Some}
 use Rattle.std.proofs.Common.{◌⊎◌, arith, subst, sym, ap, ◌∙◌, inl, inr}
-use Rattle.std.proofs.lemmas.Bool.{cases_Bool, cases_eq, cond-true, cond-false, eqb-true, eq-eqb, ne_eqb, true≢false, and_parts}
+use Rattle.std.proofs.lemmas.Bool.{cases_Bool, cases_eq, cond-true, cond-false, eqb-true, eq-eqb}
+use Rattle.std.proofs.lemmas.Bool.{ne_eqb, true≢false, and_parts}
 use Rattle.std.proofs.lemmas.Bool.Decides.{nat_tests}
 use Rattle.kernel_model.specs.declared.Kind.{Kind}
 use Rattle.kernel_model.specs.declared.QueueRow.{QueueRow}
 use Rattle.kernel_model.specs.declared.OpenRow.{OpenRow}
 use Rattle.kernel_model.specs.World.{World}
-use Rattle.kernel_model.specs.Objects.{Objects, Accounts, GraftValue, AcctValue, CacheValue, PolValue, at, at2, with_accounts, with_things}
+use Rattle.kernel_model.specs.Objects.{Objects, Accounts, GraftValue, AcctValue, CacheValue}
+use Rattle.kernel_model.specs.Objects.{PolValue, at, at2, with_accounts, with_things}
 use Rattle.kernel_model.specs.Access.{set_cell, set_segment}
 use Rattle.kernel_model.specs.Policies.{lives}
 use Rattle.kernel_model.specs.FilePieces.{with_cache, with_file}
 use Rattle.kernel_model.specs.Pieces.{with_queue, with_holder}
-use Rattle.kernel_model.specs.Sound.{IsSoundStore, IsSoundFile, IsSoundPolicy, count_of, once_if, in_queue, sum_below, ledger}
+use Rattle.kernel_model.specs.Sound.{IsSoundStore, IsSoundFile, IsSoundPolicy, count_of, once_if}
+use Rattle.kernel_model.specs.Sound.{in_queue, sum_below, ledger}
 use Rattle.plain_rules.specs.SoundCaches.{IsSoundCache}
 use Rattle.plain_rules.specs.Rows.{NicesFit}
 

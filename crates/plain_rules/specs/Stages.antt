@@ -1,5 +1,7 @@
 -- The system calls meet the laws of stages: where a call may stand, and for how long.
-use Rattle.std.specs.Prelude.{◌≡◌, ℕ, zero, suc, ◌+◌, ◌-◌, ◌<◌, ◌≤◌, Bool, true, false, not, ◌&&◌, ◌||◌, ◌==◌, nat_lt, nat_le, List, slice_index, length, Option, Some, None, is_some, Result, Ok, Err, min}
+use Rattle.std.specs.Prelude.{◌≡◌, ℕ, zero, suc, ◌+◌, ◌-◌, ◌<◌, ◌≤◌, Bool, true, false, not, ◌&&◌}
+use Rattle.std.specs.Prelude.{◌||◌, ◌==◌, nat_lt, nat_le, List, slice_index, length, Option, Some}
+use Rattle.std.specs.Prelude.{None, is_some, Result, Ok, Err, min}
 use Rattle.std.proofs.Common.{arith, refl, ap, sym, subst, ◌∙◌}
 use Rattle.std.proofs.lemmas.Bool.{leb-true, and_parts}
 use Rattle.std.proofs.lemmas.Bool.Decides.{nat_tests}
@@ -10,12 +12,15 @@ use Rattle.kernel_model.specs.declared.Refusal.TheVariants.{BadPoint, BadIndex, 
 use Rattle.kernel_model.specs.declared.OpenRow.{OpenRow}
 use Rattle.kernel_model.specs.World.{World, Image, ImageTable, Blocks, blocks_of}
 use Rattle.kernel_model.specs.Objects.{Objects, Things, PolValue, at2}
-use Rattle.kernel_model.specs.Policies.{PointKind, Ahead, Victim, Next, Serve, Stream, kind_of, args_by, ahead_default, ahead_count}
+use Rattle.kernel_model.specs.Policies.{PointKind, Ahead, Victim, Next, Serve, Stream, kind_of}
+use Rattle.kernel_model.specs.Policies.{args_by, ahead_default, ahead_count}
 use Rattle.kernel_model.specs.Meaning.{Stage, stage, registers_of, After, Continues}
 use Rattle.kernel_model.specs.Early.{begins_unless, call_refusal, refused, plain_early}
 use Rattle.kernel_model.specs.Needs.{file_block, ahead_block}
 use Rattle.kernel_model.specs.Fetch.{Fetched, Got, Failed, fetch, fetch_ahead}
-use Rattle.kernel_model.specs.FilePieces.{unless_zero, read_on, with_ahead, read_first, read_second, read_third, ahead_by, read_first_at, read_third_at, read_piece, write_fetched, write_piece, sync_from}
+use Rattle.kernel_model.specs.FilePieces.{unless_zero, read_on, with_ahead, read_first, read_second}
+use Rattle.kernel_model.specs.FilePieces.{read_third, ahead_by, read_first_at, read_third_at}
+use Rattle.kernel_model.specs.FilePieces.{read_piece, write_fetched, write_piece, sync_from}
 use Rattle.kernel_model.specs.Pieces.{plain_upto, piece_of, yield_piece, piece_fits, pieces_left, read_fits, read_left}
 use Rattle.kernel_model.specs.Alike.{SameFiles, Extends, windowless}
 use Rattle.kernel_model.specs.Laws.{StageLaws, IsRightAnswer, accepted_by, continues}

@@ -1,6 +1,8 @@
 //! The work on each array, as functions over plain lists.
 
-ghost use Rattle.std.specs.Prelude.{◌≡◌, ℕ, ◌+◌, ◌*◌, ◌<◌, ◌≤◌, ◌==◌, true, false, cond, not, length, map, filter, IfSome, IfNone, slice_index, slice_index_or, slice_set, remove, None, [], ◌∷◌, ◌++◌};
+ghost use Rattle.std.specs.Prelude.{◌≡◌, ℕ, ◌+◌, ◌*◌, ◌<◌, ◌≤◌, ◌==◌, true, false, cond, not};
+ghost use Rattle.std.specs.Prelude.{length, map, filter, slice_index, slice_index_or, slice_set, remove, [], ◌∷◌, ◌++◌};
+ghost use Rattle.std.specs.Prelude.{IfSome, IfNone, None};
 ghost use Rattle.std.specs.List.{list_any};
 ghost use Rattle.kernel_model.specs.declared.QueueRow.{QueueRow as Row};
 ghost use Rattle.kernel_model.specs.Queue.{IsLeastFree, new_row, queue_without, one_more_slice};
@@ -8,7 +10,8 @@ ghost use Rattle.kernel_model.specs.Policies.{lives};
 ghost use Rattle.kernel_model.specs.Needs.{free_process};
 ghost use Rattle.kernel_model.specs.Pieces.{to_back as queue_to_back, add_slice as queue_with_slice, freed_by};
 ghost use Rattle.kernel_model.specs.Access.{with_nice};
-ghost use Rattle.kernel_model.specs.Handlers.{is_handler, handlers_at, handlers_without, handlers_without_process, has_room};
+ghost use Rattle.kernel_model.specs.Handlers.{is_handler, handlers_at, handlers_without};
+ghost use Rattle.kernel_model.specs.Handlers.{handlers_without_process, has_room};
 ghost use Rattle.process_table.specs.Processes.{is_of};
 
 use arrayvec::ArrayVec;

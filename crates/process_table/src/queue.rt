@@ -1,6 +1,7 @@
 //! `Queue`: the living processes, in their order.
 
-ghost use Rattle.std.specs.Prelude.{◌≡◌, ◌<◌, ◌≤◌, ℕ, true, false, length, IfSome, IfNone, IsTrue, [], ◌∷◌, ◌++◌};
+ghost use Rattle.std.specs.Prelude.{◌≡◌, ◌<◌, ◌≤◌, ℕ, true, false, IfSome, IfNone, IsTrue};
+ghost use Rattle.std.specs.Prelude.{length, [], ◌∷◌, ◌++◌};
 ghost use Rattle.kernel_model.specs.Queue.{IsLeastFree, new_row, queue_without};
 ghost use Rattle.kernel_model.specs.Policies.{lives};
 ghost use Rattle.kernel_model.specs.Needs.{free_process};

@@ -1,6 +1,7 @@
 -- A memory in pages. Each has a place among the pages that were written; at place 0 stands a page of zeros,
 -- for all that weren't.
-use Rattle.std.specs.Prelude.{◌≡◌, ℕ, zero, suc, ◌+◌, ◌-◌, ◌*◌, ◌%◌, ◌<◌, ◌≤◌, ◌⊎◌, List, [], ◌∷◌, ◌++◌, length, take, drop, replicate, slice_index, slice_range}
+use Rattle.std.specs.Prelude.{◌≡◌, ℕ, zero, suc, ◌+◌, ◌-◌, ◌*◌, ◌%◌, ◌<◌, ◌≤◌, ◌⊎◌, List, [], ◌∷◌}
+use Rattle.std.specs.Prelude.{◌++◌, length, take, drop, replicate, slice_index, slice_range}
 
 -- these bytes in place of those from a on
 abbrev pub put : ℕ → List ℕ → List ℕ → List ℕ

@@ -1,7 +1,9 @@
 //! The memory of the kernel: 524,288 bytes, read and written by byte, by word and by piece.
 #![tactic(auto)]
 
-ghost use Rattle.std.specs.Prelude.{◌≡◌, ℕ, ◌+◌, ◌*◌, ◌/◌, ◌≤◌, ◌<◌, ◌%◌, ◌++◌, ◌-◌, IfOk, length, nat_eq, replicate, take, drop, slice_index, slice_range, slice_set, vec_capacity};
+ghost use Rattle.std.specs.Prelude.{◌≡◌, ℕ, ◌+◌, ◌*◌, ◌/◌, ◌≤◌, ◌<◌, ◌%◌, ◌++◌, ◌-◌, IfOk, length};
+ghost use Rattle.std.specs.Prelude.{nat_eq, replicate, take, drop, slice_index, slice_range};
+ghost use Rattle.std.specs.Prelude.{slice_set, vec_capacity};
 ghost use Rattle.std.specs.Cmp.Lexicographic.{pointwise};
 ghost use Rattle.std.specs.Int.{w32, from_le_bytes, to_le_bytes};
 ghost use Rattle.ram_space.specs.Pages.{ArePages, Becomes, IsPart, IsPiece, IsSpace, cleared, memory_of, put};

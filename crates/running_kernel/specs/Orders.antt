@@ -1,5 +1,6 @@
 -- The order of waiting as the code keeps it.
-use Rattle.std.specs.Prelude.{Bool, List, None, [], map, min, nat_le, nat_lt, not, option_map, slice_index_or, true, ℕ, ◌&&◌, ◌+◌, ◌-◌, ◌==◌, ◌^◌, ◌∷◌}
+use Rattle.std.specs.Prelude.{Bool, List, None, [], map, min, nat_le, nat_lt, not, option_map}
+use Rattle.std.specs.Prelude.{slice_index_or, true, ℕ, ◌&&◌, ◌+◌, ◌-◌, ◌==◌, ◌^◌, ◌∷◌}
 use Rattle.std.specs.List.{list_all, list_any}
 use Rattle.kernel_model.specs.Kernel.{Blocker, Entry}
 use Rattle.running_kernel.specs.declared.order.Blocking.{Blocking}

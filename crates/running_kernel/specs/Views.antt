@@ -1,5 +1,6 @@
 -- The kernel in place that a running kernel is.
-use Rattle.std.specs.Prelude.{◌≡◌, ℕ, ◌<◌, true, Bool, List, [], Option, Some, None, map, option_map, length, slice_index_or}
+use Rattle.std.specs.Prelude.{◌≡◌, ℕ, ◌<◌, true, Bool, List, [], Option, Some, None, map}
+use Rattle.std.specs.Prelude.{option_map, length, slice_index_or}
 use Rattle.kernel_model.specs.declared.Note.{Note}
 use Rattle.kernel_model.specs.World.{Blocks}
 use Rattle.kernel_model.specs.Kernel.{Kernel}

@@ -1,6 +1,7 @@
 //! The order of waiting.
 
-ghost use Rattle.std.specs.Prelude.{◌≡◌, ◌==◌, ◌<◌, ◌≤◌, ◌+◌, ◌++◌, ◌∷◌, ◌-◌, [], not, map, filter, length, slice_set, None};
+ghost use Rattle.std.specs.Prelude.{◌≡◌, ◌==◌, ◌<◌, ◌≤◌, ◌+◌, ◌++◌, ◌∷◌, ◌-◌, [], not, map, filter};
+ghost use Rattle.std.specs.Prelude.{length, slice_set, None};
 ghost use Rattle.std.specs.List.{list_any};
 ghost use Rattle.running_kernel.specs.Orders.{joined, later};
 

@@ -3,7 +3,8 @@ use Rattle.std.specs.Prelude.{◌≡◌, ℕ, ◌<◌, ◌≤◌, ⊤, List, Res
 use Rattle.kernel_model.specs.Bare.{event_with}
 use Rattle.kernel_model.specs.Script as script
 use Rattle.script_text.specs.declared.parse.Entry.{Entry}
-use Rattle.script_text.specs.declared.parse.Entry.TheVariants.{Blank, Frames, Patience, Grant, Boot, Happens, Image, Raw}
+use Rattle.script_text.specs.declared.parse.Entry.TheVariants.{Blank, Frames, Patience, Grant, Boot}
+use Rattle.script_text.specs.declared.parse.Entry.TheVariants.{Happens, Image, Raw}
 use Rattle.script_text.specs.declared.parse.ScriptFault.{ScriptFault}
 use Rattle.script_text.specs.declared.parse.ScriptFault.TheVariants.{BadWord, BadNumber, WrongPlace, UnknownCommand}
 

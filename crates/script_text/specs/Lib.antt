@@ -1,3 +1,3 @@
-pub mod Speaking
+pub mod Syntax
 pub mod Words
 pub mod Answers

@@ -1,5 +1,7 @@
 -- Where words begin and end in a line, and what becomes of a byte of a line.
-use Rattle.std.specs.Prelude.{ℕ, Bool, true, false, cond, ◌≡◌, ◌≤◌, ◌<◌, ◌==◌, get_or, nat_lt, List, [], ◌∷◌, ◌++◌, length, take, is_some, Option, Some, None, Result, Ok, Err}
+use Rattle.std.specs.Prelude.{ℕ, Bool, true, false, cond, ◌≡◌, ◌≤◌, ◌<◌, ◌==◌, get_or, nat_lt, List}
+use Rattle.std.specs.Prelude.{[], ◌∷◌, ◌++◌, length, take, is_some, Option, Some, None, Result, Ok}
+use Rattle.std.specs.Prelude.{Err}
 use Rattle.std.specs.List.{position_or_len}
 use Rattle.kernel_model.specs.Bytes.{hex_value, number_of}
 use Rattle.kernel_model.specs.declared.Form.{Form}

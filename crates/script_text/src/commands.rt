@@ -7,7 +7,7 @@ ghost use Rattle.std.specs.Prelude.{◌≡◌, ◌≤◌, ◌∷◌, length, con
 ghost use Rattle.kernel_model.specs.World.{same_bytes};
 ghost use Rattle.kernel_model.specs.declared.Command.TheVariants as command_is;
 ghost use Rattle.kernel_model.specs.Script.{command_named, command_word, call_word, is_setup, call_forms, forms_of};
-ghost use Rattle.script_text.specs.Speaking.{IsSpoken, SpeaksOf};
+ghost use Rattle.script_text.specs.Syntax.{IsSyntax, FindsSyntax};
 ghost use Rattle.script_text.specs.Words.{word_length, front_word};
 
 use crate::digits::ends_at;
@@ -31,9 +31,9 @@ fn goes_on(ending: &[u8], rest: &[u8]) -> bool
     ends_at(rest, ending.len())
 }
 
-/// A command, and what its line must be like.
+/// The syntax of a command: what its line must be like.
 #[derive(Clone, Copy)]
-pub(crate) struct Spoken {
+pub(crate) struct Syntax {
     pub(crate) command: Command,
     /// How many bytes its word has.
     pub(crate) size: usize,
@@ -43,14 +43,14 @@ pub(crate) struct Spoken {
     pub(crate) sets_up: bool,
 }
 
-/// What the line of a command must be like. It is always inlined where the command's word was read:
+/// The syntax of a command. It is always inlined where the command's word was read:
 /// a command is a constant there, and so is all of this.
 #[inline(always)]
-fn known(command: Command) -> Spoken
+fn syntax_of(command: Command) -> Syntax
     ensures command { result.command ≡ command }
-    ensures spoken { IsSpoken result }
+    ensures syntax { IsSyntax result }
 {
-    Spoken {
+    Syntax {
         command,
         size: word_size(command),
         forms: forms(command),
@@ -59,116 +59,116 @@ fn known(command: Command) -> Spoken
 }
 
 /// The command of a word that is `b` and goes on as this text begins.
-fn named_b(rest: &[u8]) -> Option<Spoken>
-    ensures { SpeaksOf (command_named (98 ∷ front_word rest.now)) result }
+fn named_b(rest: &[u8]) -> Option<Syntax>
+    ensures { FindsSyntax (command_named (98 ∷ front_word rest.now)) result }
 {
     if goes_on(b"oot".as_slice(), rest) {
-        Some(known(Command::Boot))
+        Some(syntax_of(Command::Boot))
     } else if goes_on(b"ill".as_slice(), rest) {
-        Some(known(Command::Call(CallName::Bill)))
+        Some(syntax_of(Command::Call(CallName::Bill)))
     } else {
         None
     }
 }
 
 /// The command of a word that is `f` and goes on as this text begins.
-fn named_f(rest: &[u8]) -> Option<Spoken>
-    ensures { SpeaksOf (command_named (102 ∷ front_word rest.now)) result }
+fn named_f(rest: &[u8]) -> Option<Syntax>
+    ensures { FindsSyntax (command_named (102 ∷ front_word rest.now)) result }
 {
     if goes_on(b"rames".as_slice(), rest) {
-        Some(known(Command::Frames))
+        Some(syntax_of(Command::Frames))
     } else if goes_on(b"und".as_slice(), rest) {
-        Some(known(Command::Call(CallName::Fund)))
+        Some(syntax_of(Command::Call(CallName::Fund)))
     } else {
         None
     }
 }
 
 /// The command of a word that is `g` and goes on as this text begins.
-fn named_g(rest: &[u8]) -> Option<Spoken>
-    ensures { SpeaksOf (command_named (103 ∷ front_word rest.now)) result }
+fn named_g(rest: &[u8]) -> Option<Syntax>
+    ensures { FindsSyntax (command_named (103 ∷ front_word rest.now)) result }
 {
     if goes_on(b"rant".as_slice(), rest) {
-        Some(known(Command::Grant))
+        Some(syntax_of(Command::Grant))
     } else if goes_on(b"ive".as_slice(), rest) {
-        Some(known(Command::Call(CallName::Give)))
+        Some(syntax_of(Command::Call(CallName::Give)))
     } else {
         None
     }
 }
 
 /// The command of a word that is `i` and goes on as this text begins.
-fn named_i(rest: &[u8]) -> Option<Spoken>
-    ensures { SpeaksOf (command_named (105 ∷ front_word rest.now)) result }
+fn named_i(rest: &[u8]) -> Option<Syntax>
+    ensures { FindsSyntax (command_named (105 ∷ front_word rest.now)) result }
 {
     if goes_on(b"mage".as_slice(), rest) {
-        Some(known(Command::Image))
+        Some(syntax_of(Command::Image))
     } else if goes_on(b"nstall".as_slice(), rest) {
-        Some(known(Command::Call(CallName::Install)))
+        Some(syntax_of(Command::Call(CallName::Install)))
     } else {
         None
     }
 }
 
 /// The command of a word that is `p` and goes on as this text begins.
-fn named_p(rest: &[u8]) -> Option<Spoken>
-    ensures { SpeaksOf (command_named (112 ∷ front_word rest.now)) result }
+fn named_p(rest: &[u8]) -> Option<Syntax>
+    ensures { FindsSyntax (command_named (112 ∷ front_word rest.now)) result }
 {
     if goes_on(b"eek".as_slice(), rest) {
-        Some(known(Command::Call(CallName::Peek)))
+        Some(syntax_of(Command::Call(CallName::Peek)))
     } else if goes_on(b"oke".as_slice(), rest) {
-        Some(known(Command::Call(CallName::Poke)))
+        Some(syntax_of(Command::Call(CallName::Poke)))
     } else if goes_on(b"atience".as_slice(), rest) {
-        Some(known(Command::Patience))
+        Some(syntax_of(Command::Patience))
     } else {
         None
     }
 }
 
 /// The command of a word that is `r` and goes on as this text begins.
-fn named_r(rest: &[u8]) -> Option<Spoken>
-    ensures { SpeaksOf (command_named (114 ∷ front_word rest.now)) result }
+fn named_r(rest: &[u8]) -> Option<Syntax>
+    ensures { FindsSyntax (command_named (114 ∷ front_word rest.now)) result }
 {
     if goes_on(b"ead".as_slice(), rest) {
-        Some(known(Command::Call(CallName::Read)))
+        Some(syntax_of(Command::Call(CallName::Read)))
     } else if goes_on(b"aw".as_slice(), rest) {
-        Some(known(Command::Raw))
+        Some(syntax_of(Command::Raw))
     } else if goes_on(b"emove".as_slice(), rest) {
-        Some(known(Command::Call(CallName::Remove)))
+        Some(syntax_of(Command::Call(CallName::Remove)))
     } else {
         None
     }
 }
 
 /// The command of a word that is `s` and goes on as this text begins.
-fn named_s(rest: &[u8]) -> Option<Spoken>
-    ensures { SpeaksOf (command_named (115 ∷ front_word rest.now)) result }
+fn named_s(rest: &[u8]) -> Option<Syntax>
+    ensures { FindsSyntax (command_named (115 ∷ front_word rest.now)) result }
 {
     if goes_on(b"tep".as_slice(), rest) {
-        Some(known(Command::Step))
+        Some(syntax_of(Command::Step))
     } else if goes_on(b"pawn".as_slice(), rest) {
-        Some(known(Command::Call(CallName::Spawn)))
+        Some(syntax_of(Command::Call(CallName::Spawn)))
     } else if goes_on(b"ync".as_slice(), rest) {
-        Some(known(Command::Call(CallName::Sync)))
+        Some(syntax_of(Command::Call(CallName::Sync)))
     } else if goes_on(b"erve".as_slice(), rest) {
-        Some(known(Command::Call(CallName::Serve)))
+        Some(syntax_of(Command::Call(CallName::Serve)))
     } else if goes_on(b"read".as_slice(), rest) {
-        Some(known(Command::Call(CallName::StreamRead)))
+        Some(syntax_of(Command::Call(CallName::StreamRead)))
     } else if goes_on(b"write".as_slice(), rest) {
-        Some(known(Command::Call(CallName::StreamWrite)))
+        Some(syntax_of(Command::Call(CallName::StreamWrite)))
     } else {
         None
     }
 }
 
 /// The command of a word that is `t` and goes on as this text begins.
-fn named_t(rest: &[u8]) -> Option<Spoken>
-    ensures { SpeaksOf (command_named (116 ∷ front_word rest.now)) result }
+fn named_t(rest: &[u8]) -> Option<Syntax>
+    ensures { FindsSyntax (command_named (116 ∷ front_word rest.now)) result }
 {
     if goes_on(b"ick".as_slice(), rest) {
-        Some(known(Command::Tick))
+        Some(syntax_of(Command::Tick))
     } else if goes_on(b"une".as_slice(), rest) {
-        Some(known(Command::Call(CallName::Tune)))
+        Some(syntax_of(Command::Call(CallName::Tune)))
     } else {
         None
     }
@@ -176,22 +176,22 @@ fn named_t(rest: &[u8]) -> Option<Spoken>
 
 /// This call, where a word goes on as its word does.
 #[inline(always)]
-fn call_if(name: CallName, ending: &[u8], rest: &[u8]) -> Option<Spoken>
+fn call_if(name: CallName, ending: &[u8], rest: &[u8]) -> Option<Syntax>
     requires { word_length ending.now ≡ length ending.now }
-    ensures { SpeaksOf
+    ensures { FindsSyntax
         (cond (same_bytes ending.now (front_word rest.now)) (Some (command_is.Call name)) None)
         result }
 {
     if goes_on(ending, rest) {
-        Some(known(Command::Call(name)))
+        Some(syntax_of(Command::Call(name)))
     } else {
         None
     }
 }
 
 /// The command of the word that begins with this byte and goes on as this text begins.
-fn named_after(first: u8, rest: &[u8]) -> Option<Spoken>
-    ensures { SpeaksOf (command_named (first ∷ front_word rest.now)) result }
+fn named_after(first: u8, rest: &[u8]) -> Option<Syntax>
+    ensures { FindsSyntax (command_named (first ∷ front_word rest.now)) result }
 {
     match first {
         b'b' => named_b(rest),
@@ -215,8 +215,8 @@ fn named_after(first: u8, rest: &[u8]) -> Option<Spoken>
 }
 
 /// The command of the word that a text begins with.
-pub(crate) fn named(text: &[u8]) -> Option<Spoken>
-    ensures { SpeaksOf (command_named (front_word text.now)) result }
+pub(crate) fn named(text: &[u8]) -> Option<Syntax>
+    ensures { FindsSyntax (command_named (front_word text.now)) result }
 {
     match text.split_first() {
         Some((first, rest)) => named_after(*first, rest),

@@ -4,7 +4,9 @@ ghost use Rattle.std.specs.Prelude.{◌≡◌, ℕ, ◌≤◌, ◌<◌, List, []
 ghost use Rattle.kernel_model.specs.declared.Command.TheVariants as command_is;
 ghost use Rattle.kernel_model.specs.Bare.{call_with};
 ghost use Rattle.kernel_model.specs.Bytes.{hex_word};
-ghost use Rattle.kernel_model.specs.Script.{WRITE_DIGITS, IMAGE_DIGITS, amount_at, name_word, open_by, write_by, serve_by, stream_write_by, call_of, happens_by, loads_by, entry_of, is_blank, parsed_line};
+ghost use Rattle.kernel_model.specs.Script.{WRITE_DIGITS, IMAGE_DIGITS, amount_at, name_word};
+ghost use Rattle.kernel_model.specs.Script.{open_by, write_by, serve_by, stream_write_by, call_of};
+ghost use Rattle.kernel_model.specs.Script.{happens_by, loads_by, entry_of, is_blank, parsed_line};
 ghost use Rattle.script_text.specs.Answers.{Answers, SetsWithin};
 
 use crate::commands::named;
@@ -267,19 +269,19 @@ pub fn parse_line<'a>(
     if is_blank_line(line) {
         return Ok(Entry::Blank);
     }
-    let Some(spoken) = named(line) else {
+    let Some(syntax) = named(line) else {
         return Err(ScriptFault::UnknownCommand);
     };
-    if spoken.sets_up == booted {
+    if syntax.sets_up == booted {
         return Err(ScriptFault::WrongPlace);
     }
     let mut words = WordsRead {
         numbers: ArrayVec::new(),
         last: &line[..0],
     };
-    match read_words(spoken.forms, skip(line, spoken.size), &mut words) {
+    match read_words(syntax.forms, skip(line, syntax.size), &mut words) {
         Reading::BadWord => Err(ScriptFault::BadWord),
         Reading::BadNumber => Err(ScriptFault::BadNumber),
-        Reading::Said => entry_said(spoken.command, words.numbers.as_slice(), words.last, bytes),
+        Reading::Said => entry_said(syntax.command, words.numbers.as_slice(), words.last, bytes),
     }
 }

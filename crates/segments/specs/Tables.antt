@@ -1,5 +1,7 @@
 -- Segments by number, each there or not, and how flags and bytes stand for them.
-use Rattle.std.specs.Prelude.{◌≡◌, ℕ, ◌+◌, ◌-◌, ◌*◌, ◌≤◌, Bool, true, false, List, [], ◌∷◌, ◌++◌, length, replicate, take, drop, Option, None, Some, option_map, slice_index, slice_index_or}
+use Rattle.std.specs.Prelude.{◌≡◌, ℕ, ◌+◌, ◌-◌, ◌*◌, ◌≤◌, Bool, true, false, List, [], ◌∷◌, ◌++◌}
+use Rattle.std.specs.Prelude.{length, replicate, take, drop, Option, None, Some, option_map}
+use Rattle.std.specs.Prelude.{slice_index, slice_index_or}
 
 -- segments by number: the bytes of each that is there
 abbrev pub Table : Type 0

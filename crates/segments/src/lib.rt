@@ -2,7 +2,9 @@
 //! what was kept before.
 #![tactic(auto)]
 
-ghost use Rattle.std.specs.Prelude.{◌≡◌, ℕ, ◌<◌, ◌≤◌, ◌*◌, ◌+◌, ◌++◌, true, false, List, None, Some, take, drop, length, replicate, slice_set, slice_index_or, slice_range, vec_capacity, ◌-◌, IfOk, IfSome};
+ghost use Rattle.std.specs.Prelude.{◌≡◌, ℕ, ◌<◌, ◌≤◌, ◌*◌, ◌+◌, ◌++◌, true, false, List, None};
+ghost use Rattle.std.specs.Prelude.{Some, take, drop, length, replicate, slice_set, slice_index_or};
+ghost use Rattle.std.specs.Prelude.{slice_range, vec_capacity, ◌-◌, IfOk, IfSome};
 ghost use Rattle.std.specs.Option.{option_copied};
 ghost use Rattle.segments.specs.Tables.{AreSegments, segments_of};
 

@@ -7,7 +7,8 @@ ghost use Rattle.kernel_model.specs.StreamPoints.{stream_points, stream_ask, str
 ghost use Rattle.disk_log.specs.Calls.{Knows, Made};
 ghost use Rattle.kernel_state.specs.Stores.{world_of_store, objects_of, SegmentsStay};
 ghost use Rattle.call_needs.specs.Works.{IsDue, call_of, stage_of, answer_seen};
-ghost use Rattle.call_pieces.specs.Matching.{comes_after, PieceMatches, PieceMatchesSome, ContinuesFrom, is_fault, goes_on};
+ghost use Rattle.call_pieces.specs.Matching.{comes_after, PieceMatches, PieceMatchesSome};
+ghost use Rattle.call_pieces.specs.Matching.{ContinuesFrom, is_fault, goes_on};
 ghost use Rattle.call_needs.specs.Fetching.{has_failed};
 
 use crate::streams::{change, give_out, take_block};

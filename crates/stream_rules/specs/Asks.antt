@@ -1,5 +1,6 @@
 -- The calls of stream points meet the laws of the points that pieces ask.
-use Rattle.std.specs.Prelude.{◌≡◌, ℕ, zero, suc, ◌+◌, ◌≤◌, ◌<◌, true, length, List, ◌∷◌, Option, Some, None, Result, Ok, Err}
+use Rattle.std.specs.Prelude.{◌≡◌, ℕ, zero, suc, ◌+◌, ◌≤◌, ◌<◌, true, length, List, ◌∷◌, Option}
+use Rattle.std.specs.Prelude.{Some, None, Result, Ok, Err}
 use Rattle.std.proofs.Common.{arith, refl, ap, sym, subst, ◌∙◌}
 use Rattle.std.proofs.lemmas.Bool.{or_left}
 use Rattle.kernel_model.specs.declared.Need.{Need}
@@ -16,9 +17,11 @@ use Rattle.kernel_model.specs.Policies.{kind_of}
 use Rattle.kernel_model.specs.Meaning.{Stage, stage}
 use Rattle.kernel_model.specs.Needs.{shared, file_block, file_block_in}
 use Rattle.kernel_model.specs.Alike.{AgreeOn, AreAlike, is_needed, windowless}
-use Rattle.kernel_model.specs.StreamPoints.{READ_POINT, WRITE_POINT, stream_points, stream_fits, stream_point, stream_point_needs, stream_write_asks}
+use Rattle.kernel_model.specs.StreamPoints.{READ_POINT, WRITE_POINT, stream_points, stream_fits}
+use Rattle.kernel_model.specs.StreamPoints.{stream_point, stream_point_needs, stream_write_asks}
 use Rattle.kernel_model.specs.Laws.{AskLaws, IsStanding, IsRightPoint, SameKindOfPoint, SameAheadAsk, before_point}
-use Rattle.stream_rules.specs.PlainStages.{plain_table, plain_laws, at_stage, need_stage, plain_stands, in_block, read_carries}
+use Rattle.stream_rules.specs.PlainStages.{plain_table, plain_laws, at_stage, need_stage}
+use Rattle.stream_rules.specs.PlainStages.{plain_stands, in_block, read_carries}
 use Rattle.stream_rules.specs.NeededObjects.{same_needs, need_stands}
 use Rattle.stream_rules.specs.AskedPoints.{same_asks, write_point, read_before, write_before, right_point, block_below}
 

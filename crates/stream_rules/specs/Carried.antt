@@ -1,6 +1,8 @@
 -- What stream calls carry from their first piece to their second: the bytes of a read's block, and
 -- what came out of the point of a write.
-use Rattle.std.specs.Prelude.{◌≡◌, ℕ, ◌+◌, ◌-◌, ◌≤◌, ◌<◌, Bool, true, ◌==◌, length, drop, slice_index, slice_range, List, [], ◌∷◌, Option, Some, None, Result, Ok, Err}
+use Rattle.std.specs.Prelude.{◌≡◌, ℕ, ◌+◌, ◌-◌, ◌≤◌, ◌<◌, Bool, true, ◌==◌, length, drop}
+use Rattle.std.specs.Prelude.{slice_index, slice_range, List, [], ◌∷◌, Option, Some, None, Result}
+use Rattle.std.specs.Prelude.{Ok, Err}
 use Rattle.std.proofs.Common.{arith, refl, subst}
 use Rattle.std.proofs.lemmas.Bool.Decides.{nat_tests}
 use Rattle.std.proofs.lemmas.List.{length-take}
@@ -11,7 +13,8 @@ use Rattle.kernel_model.specs.Objects.{Objects}
 use Rattle.kernel_model.specs.Policies.{Stream, kind_of}
 use Rattle.kernel_model.specs.Meaning.{Stage, Answer, Continues, HasWholeBody, registers_of}
 use Rattle.kernel_model.specs.Fetch.{Fetched, Got, Failed, fetch, bytes_of}
-use Rattle.kernel_model.specs.StreamPoints.{WRITE_POINT, stream_point, stream_taken, stream_fetches, stream_write_asks, stream_changed, through}
+use Rattle.kernel_model.specs.StreamPoints.{WRITE_POINT, stream_point, stream_taken, stream_fetches}
+use Rattle.kernel_model.specs.StreamPoints.{stream_write_asks, stream_changed, through}
 use Rattle.kernel_model.specs.Laws.{IsRightAnswer, accepted_by}
 
 -- ---- answers of streams

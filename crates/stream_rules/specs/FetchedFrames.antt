@@ -7,7 +7,8 @@ use Rattle.kernel_model.specs.World.{World, Blocks}
 use Rattle.kernel_model.specs.Objects.{CacheValue, FrameValue, PolValue, at}
 use Rattle.kernel_model.specs.Meaning.{disk_fails}
 use Rattle.kernel_model.specs.Needs.{frame_with, frame_of_block, free_frame}
-use Rattle.kernel_model.specs.Fetch.{Fetched, Got, Failed, fetch, fetch_by, read_block, place_block, evict, chosen_by, replaced, new_frame}
+use Rattle.kernel_model.specs.Fetch.{Fetched, Got, Failed, fetch, fetch_by, read_block, place_block}
+use Rattle.kernel_model.specs.Fetch.{evict, chosen_by, replaced, new_frame}
 use Rattle.plain_rules.specs.FetchCases.{candidate_of}
 use Rattle.plain_rules.specs.Ledgers.{at_here}
 use Rattle.plain_rules.specs.SoundCaches.{IsSoundCache}

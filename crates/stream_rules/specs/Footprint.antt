@@ -1,5 +1,6 @@
 -- What the pieces of stream calls look at and change: the laws.
-use Rattle.std.specs.Prelude.{◌≡◌, ℕ, zero, suc, Bool, true, false, length, replicate, List, [], ◌∷◌, Option, Some, Result, Ok, Err}
+use Rattle.std.specs.Prelude.{◌≡◌, ℕ, zero, suc, Bool, true, false, length, replicate, List, []}
+use Rattle.std.specs.Prelude.{◌∷◌, Option, Some, Result, Ok, Err}
 use Rattle.std.proofs.Common.{refl, ap, sym, subst, ◌∙◌}
 use Rattle.std.proofs.lemmas.Bool.{false≢true, or_left}
 use Rattle.kernel_model.specs.declared.Need.{Need}

@@ -1,6 +1,8 @@
 -- The objects that pieces of stream calls need: those of the first piece of a write, and that all
 -- others need what their plain stages need.
-use Rattle.std.specs.Prelude.{◌≡◌, ℕ, zero, suc, ◌+◌, ◌≤◌, ◌<◌, true, false, length, replicate, slice_index_or, List, ◌∷◌, Option, Some, None, Result, Ok, Err, Contains}
+use Rattle.std.specs.Prelude.{◌≡◌, ℕ, zero, suc, ◌+◌, ◌≤◌, ◌<◌, true, false, length, replicate}
+use Rattle.std.specs.Prelude.{slice_index_or, List, ◌∷◌, Option, Some, None, Result, Ok, Err}
+use Rattle.std.specs.Prelude.{Contains}
 use Rattle.std.specs.List.{AllByRecursion as Each}
 use Rattle.std.proofs.Common.{arith, refl, ap, sym, subst, ◌∙◌}
 use Rattle.std.proofs.lemmas.List.{length-replicate}
@@ -21,7 +23,9 @@ use Rattle.kernel_model.specs.Needs.{shared, exclusive, fetch_needs, file_block,
 use Rattle.kernel_model.specs.Alike.{is_needed, is_needed_exclusively}
 use Rattle.kernel_model.specs.StreamPoints.{WRITE_POINT, stream_points, stream_fits, stream_point_needs}
 use Rattle.kernel_model.specs.Laws.{IsStanding, waits_for_user}
-use Rattle.stream_rules.specs.PlainStages.{plain_table, plain_laws, at_stage, is_first_write, need_stage, plain_fits, plain_stands, in_block, range_granted}
+use Rattle.stream_rules.specs.PlainStages.{plain_table, plain_laws, at_stage, is_first_write}
+use Rattle.stream_rules.specs.PlainStages.{need_stage, plain_fits, plain_stands, in_block}
+use Rattle.stream_rules.specs.PlainStages.{range_granted}
 use Rattle.plain_rules.specs.NeedOrder.{Follows, follows_piece}
 use Rattle.plain_rules.specs.NeedParts.{each_contains, each_of_point}
 

@@ -16,11 +16,14 @@ use Rattle.kernel_model.specs.Events.{wanted}
 use Rattle.kernel_model.specs.Needs.{file_block, point_needs}
 use Rattle.kernel_model.specs.Alike.{AgreeOn, is_needed, is_needed_exclusively}
 use Rattle.kernel_model.specs.StreamPoints.{READ_POINT, stream_points, stream_fits, stream_point}
-use Rattle.kernel_model.specs.Laws.{NeedLaws, IsStanding, IsInRange, IsOwnFile, waits_for_user, needs_of_point, before_point, answer_objects}
+use Rattle.kernel_model.specs.Laws.{NeedLaws, IsStanding, IsInRange, IsOwnFile, waits_for_user}
+use Rattle.kernel_model.specs.Laws.{needs_of_point, before_point, answer_objects}
 use Rattle.stream_rules.specs.PlainStages.{plain_laws, at_stage, need_stage, plain_stands, in_block}
 use Rattle.plain_rules.specs.NeedOrder.{follows_next}
 use Rattle.stream_rules.specs.AskedPoints.{same_asks, write_point, read_ends, read_before, write_ends, write_before}
-use Rattle.stream_rules.specs.NeededObjects.{same_needs, need_fits, same_waits, need_stands, first_needs, of_first, follows_first, first_few, first_takes, first_modes}
+use Rattle.stream_rules.specs.NeededObjects.{same_needs, need_fits, same_waits, need_stands}
+use Rattle.stream_rules.specs.NeededObjects.{first_needs, of_first, follows_first, first_few}
+use Rattle.stream_rules.specs.NeededObjects.{first_takes, first_modes}
 
 -- states that agree on the first objects have the same next one
 next_needs : (c : SysCall) (n : ℕ) (t : Stage) (v : World) (s u : Objects) (p i : ℕ) →

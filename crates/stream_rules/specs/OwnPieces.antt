@@ -1,7 +1,8 @@
 -- What the pieces of stream calls do: the first of a read is the first piece of a plain read that
 -- takes its bytes into the call, the second of a read and the first of a write change nothing, and
 -- every other does what its plain stage does.
-use Rattle.std.specs.Prelude.{◌≡◌, ℕ, zero, suc, Bool, true, false, length, List, [], Option, Some, None, Result, Ok, Err}
+use Rattle.std.specs.Prelude.{◌≡◌, ℕ, zero, suc, Bool, true, false, length, List, [], Option, Some}
+use Rattle.std.specs.Prelude.{None, Result, Ok, Err}
 use Rattle.std.proofs.Common.{refl, ap, sym, subst, inl, inr}
 use Rattle.std.proofs.lemmas.Bool.{cases_Bool}
 use Rattle.kernel_model.specs.declared.OpenRow.{OpenRow}

@@ -1,6 +1,7 @@
 -- Stages of the plain table whose pieces do what pieces of this table do, or need the same objects;
 -- and that a call stands there where it stands here.
-use Rattle.std.specs.Prelude.{◌≡◌, ℕ, zero, suc, ◌+◌, ◌≤◌, ◌<◌, ◌==◌, Bool, true, false, cond, nat_lt, length, replicate, List, Option, Some, None}
+use Rattle.std.specs.Prelude.{◌≡◌, ℕ, zero, suc, ◌+◌, ◌≤◌, ◌<◌, ◌==◌, Bool, true, false, cond}
+use Rattle.std.specs.Prelude.{nat_lt, length, replicate, List, Option, Some, None}
 use Rattle.std.specs.Result.{is_ok}
 use Rattle.std.proofs.Common.{arith, refl, subst}
 use Rattle.std.proofs.lemmas.Bool.{and_parts}
@@ -8,13 +9,15 @@ use Rattle.std.proofs.lemmas.Bool.Decides.{nat_tests}
 use Rattle.kernel_model.specs.declared.Refusal.{Refusal}
 use Rattle.kernel_model.specs.declared.Refusal.TheVariants.{BadPoint, BadFd, BadIndex}
 use Rattle.kernel_model.specs.declared.SysCall.{SysCall}
-use Rattle.kernel_model.specs.declared.SysCall.TheVariants.{Read, Write, Install, Remove, Fund, Bill, StreamRead, StreamWrite}
+use Rattle.kernel_model.specs.declared.SysCall.TheVariants.{Read, Write, Install, Remove, Fund}
+use Rattle.kernel_model.specs.declared.SysCall.TheVariants.{Bill, StreamRead, StreamWrite}
 use Rattle.kernel_model.specs.World.{World, ImageTable}
 use Rattle.kernel_model.specs.Objects.{Objects}
 use Rattle.kernel_model.specs.Meaning.{Meaning, Stage, stage, Answer, registers_of}
 use Rattle.kernel_model.specs.Early.{begins_unless, call_refusal, refused}
 use Rattle.kernel_model.specs.Pieces.{plain_upto}
-use Rattle.kernel_model.specs.StreamPoints.{READ_POINT, WRITE_POINT, is_stream_point, is_stream_call, stream_fits, stream_points}
+use Rattle.kernel_model.specs.StreamPoints.{READ_POINT, WRITE_POINT, is_stream_point}
+use Rattle.kernel_model.specs.StreamPoints.{is_stream_call, stream_fits, stream_points}
 use Rattle.kernel_model.specs.Laws.{Laws, IsStanding, IsReady, IsRightAnswer}
 use Rattle.plain_rules.specs.PlainLaws.{laws_of_plain_upto}
 

@@ -1,6 +1,7 @@
 -- The calls of stream points meet the laws of stages: at which ones a call may stand, and for how
 -- long.
-use Rattle.std.specs.Prelude.{◌≡◌, ℕ, zero, suc, ◌+◌, ◌-◌, ◌≤◌, ◌<◌, ◌&&◌, Bool, true, false, cond, length, List, Option, Some, None, Ok}
+use Rattle.std.specs.Prelude.{◌≡◌, ℕ, zero, suc, ◌+◌, ◌-◌, ◌≤◌, ◌<◌, ◌&&◌, Bool, true, false, cond}
+use Rattle.std.specs.Prelude.{length, List, Option, Some, None, Ok}
 use Rattle.std.proofs.Common.{arith, refl, ap, sym, subst}
 use Rattle.std.proofs.lemmas.Bool.Decides.{nat_tests}
 use Rattle.kernel_model.specs.declared.Refusal.{Refusal}
@@ -14,9 +15,11 @@ use Rattle.kernel_model.specs.Early.{begins_unless, call_refusal}
 use Rattle.kernel_model.specs.Needs.{file_block}
 use Rattle.kernel_model.specs.Pieces.{pieces_left}
 use Rattle.kernel_model.specs.Alike.{Extends}
-use Rattle.kernel_model.specs.StreamPoints.{WRITE_POINT, is_stream_call, stream_refusal, stream_points, stream_fits, stream_left}
+use Rattle.kernel_model.specs.StreamPoints.{WRITE_POINT, is_stream_call, stream_refusal}
+use Rattle.kernel_model.specs.StreamPoints.{stream_points, stream_fits, stream_left}
 use Rattle.kernel_model.specs.Laws.{StageLaws, IsReady}
-use Rattle.stream_rules.specs.PlainStages.{plain_table, plain_laws, at_stage, is_own, plain_stage, plain_ready, in_block, read_carries, write_carries}
+use Rattle.stream_rules.specs.PlainStages.{plain_table, plain_laws, at_stage, is_own, plain_stage}
+use Rattle.stream_rules.specs.PlainStages.{plain_ready, in_block, read_carries, write_carries}
 use Rattle.stream_rules.specs.AskedPoints.{block_below}
 use Rattle.stream_rules.specs.Carried.{IsSecond, read_goes_on, read_block, write_goes_on}
 

@@ -7,7 +7,8 @@ use Rattle.kernel_model.specs.World.{World, ImageTable}
 use Rattle.kernel_model.specs.Objects.{Objects}
 use Rattle.kernel_model.specs.Meaning.{Meaning, Stage, Answer}
 use Rattle.kernel_model.specs.Beside.{beside}
-use Rattle.kernel_model.specs.Laws.{Laws, NeedLaws, AskLaws, FootprintLaws, PieceLaws, DiskLaws, StageLaws, IsStanding, IsReady}
+use Rattle.kernel_model.specs.Laws.{Laws, NeedLaws, AskLaws, FootprintLaws, PieceLaws, DiskLaws}
+use Rattle.kernel_model.specs.Laws.{StageLaws, IsStanding, IsReady}
 
 -- the one table where the test holds, else the other
 abbrev table_by : Bool → (a b : Meaning) → Meaning

@@ -1,7 +1,9 @@
 //! The undo log of a call: what its changing accessors found, by level.
 #![tactic(auto)]
 
-ghost use Rattle.std.specs.Prelude.{◌≡◌, ◌-◌, ◌<◌, ◌≤◌, ◌↔◌, ◌==◌, true, cond, not, is_some, [], ◌∷◌, ◌++◌, length, option_map, reverse, take, slice_index, slice_index_or, None, OnOk, OnErr, IsErr, IfErr, IfOk, IfSome};
+ghost use Rattle.std.specs.Prelude.{◌≡◌, ◌-◌, ◌<◌, ◌≤◌, ◌↔◌, ◌==◌, true, cond, not, is_some, []};
+ghost use Rattle.std.specs.Prelude.{◌∷◌, ◌++◌, length, option_map, reverse, take, slice_index};
+ghost use Rattle.std.specs.Prelude.{slice_index_or, None, OnOk, OnErr, IsErr, IfErr, IfOk, IfSome};
 ghost use Rattle.std.specs.Option.{option_copied};
 ghost use Rattle.undo_calls.specs.UndoLevels.{owner_by, logged_at, bare, is_bare};
 
@@ -102,7 +104,9 @@ fn owner_at(marks: &[u8], i: usize) -> u8
 }
 
 impl UndoStack {
-    ghost use Rattle.undo_calls.specs.UndoLevels.{recorded, merged, innermost, newest, without_newest, records_of, inverses_of, owners_of, segment_logged};
+    ghost use Rattle.undo_calls.specs.UndoLevels.{recorded, merged, innermost, newest};
+    ghost use Rattle.undo_calls.specs.UndoLevels.{without_newest, records_of, inverses_of};
+    ghost use Rattle.undo_calls.specs.UndoLevels.{owners_of, segment_logged};
     ghost use Rattle.undo_calls.specs.Views.{logged_of};
 
     /// There is no level and no record. Takes all the memory that it ever does.

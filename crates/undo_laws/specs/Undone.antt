@@ -1,6 +1,7 @@
 -- What undoing makes of the one store of a kernel in place: the store of the abstract kernel below
 -- a cut.
-use Rattle.std.specs.Prelude.{◌≡◌, ℕ, ◌≤◌, ◌<◌, true, cond, nat_lt, length, List, [], ◌∷◌, Some, None, is_some, Contains}
+use Rattle.std.specs.Prelude.{◌≡◌, ℕ, ◌≤◌, ◌<◌, true, cond, nat_lt, length, List, [], ◌∷◌, Some}
+use Rattle.std.specs.Prelude.{None, is_some, Contains}
 use Rattle.kernel_model.specs.declared.Cause.{Cause}
 use Rattle.kernel_model.specs.declared.Object.{Object}
 use Rattle.kernel_model.specs.Objects.{Objects, SameAt, SameThing, at}

@@ -1,6 +1,7 @@
 //! Laws of undoing in the one store.
 
-ghost use Rattle.undo_laws.specs.Undone.{UndoneInPlace, UndoneIsCommitted, CallsUndoToCommitted, DropsLeadToStoreBelow, DropsLeaveTheStoreBelow};
+ghost use Rattle.undo_laws.specs.Undone.{UndoneInPlace, UndoneIsCommitted, CallsUndoToCommitted};
+ghost use Rattle.undo_laws.specs.Undone.{DropsLeadToStoreBelow, DropsLeaveTheStoreBelow};
 
 use kernel_model::Rules;
 

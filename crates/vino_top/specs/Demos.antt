@@ -9,7 +9,8 @@ use Rattle.demo_text.specs.declared.tally.Tally.{Tally}
 use Rattle.demo_text.specs.Tallies.{IsTally}
 use Rattle.vino_top.specs.Built.{present_build}
 use Rattle.vino_top.specs.Standing.{Seen, StandsFor}
-use Rattle.vino_top.specs.Run.{Place, place, lines_run, UsesAll, MadeAll, ForEachSession, IsFirst, WantsMemory, WantsAt, Left, LineMatches}
+use Rattle.vino_top.specs.Run.{Place, place, lines_run, UsesAll, MadeAll, ForEachSession, IsFirst}
+use Rattle.vino_top.specs.Run.{WantsMemory, WantsAt, Left, LineMatches}
 
 -- what all these lines make of a session, and what they write
 abbrev pub all_run : Place → Session → List (List ℕ) → List (List Bool) → Written

@@ -1,5 +1,7 @@
 -- What a call of `vino` does to its source, its sink and its disk.
-use Rattle.std.specs.Prelude.{◌≡◌, ◌≢◌, ◌==◌, MatchResult, OnOk, ℕ, ◌+◌, ◌<◌, ◌≤◌, ◌⊎◌, ⊤, Bool, true, false, List, [], ◌∷◌, ◌++◌, length, take, flat_map, Option, Some, None, is_some, Result, Ok, Err, codes}
+use Rattle.std.specs.Prelude.{◌≡◌, ◌≢◌, ◌==◌, MatchResult, OnOk, ℕ, ◌+◌, ◌<◌, ◌≤◌, ◌⊎◌, ⊤, Bool}
+use Rattle.std.specs.Prelude.{true, false, List, [], ◌∷◌, ◌++◌, length, take, flat_map, Option}
+use Rattle.std.specs.Prelude.{Some, None, is_some, Result, Ok, Err, codes}
 use Rattle.std.specs.List.{concat}
 use Rattle.std.specs.Io.KnownBytes.{Appends, Consumes, IsAtEnd}
 use Rattle.vino_base.specs.Streams.{SourceSeen, SinkSeen, IsUsed}
@@ -10,7 +12,8 @@ use Rattle.kernel_model.specs.declared.Keys.{Keys}
 use Rattle.kernel_model.specs.declared.FileRow.{FileRow}
 use Rattle.kernel_model.specs.declared.Note.{Note}
 use Rattle.kernel_model.specs.World.{Blocks}
-use Rattle.kernel_model.specs.Session.{Session, Written, first_session, after_line, after_entry, session_after, pieces_of, first_io, later_io}
+use Rattle.kernel_model.specs.Session.{Session, Written, first_session, after_line, after_entry}
+use Rattle.kernel_model.specs.Session.{session_after, pieces_of, first_io, later_io}
 use Rattle.kernel_model.specs.Kernel.{Kernel}
 use Rattle.kernel_model.specs.Script.{Entry, Boot, Happens, Loads, parsed_line}
 use Rattle.kernel_model.specs.Outcome.{SCRIPT_BYTES, Ending, End, Outcome, outcome, written, lines_after, rest_after}

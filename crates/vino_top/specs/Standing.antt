@@ -1,5 +1,6 @@
 -- Which abstract sessions a session of the code stands for.
-use Rattle.std.specs.Prelude.{◌≡◌, ℕ, suc, Bool, true, false, cond, List, [], ◌∷◌, Option, Some, None, slice_index_or, flat_map}
+use Rattle.std.specs.Prelude.{◌≡◌, ℕ, suc, Bool, true, false, cond, List, [], ◌∷◌, Option, Some}
+use Rattle.std.specs.Prelude.{None, slice_index_or, flat_map}
 use Rattle.disk_log.specs.Calls.{Knows}
 use Rattle.kernel_model.specs.World.{processes}
 use Rattle.kernel_model.specs.AllCalls.{all_calls}

@@ -1,6 +1,7 @@
 //! The word `demo`: the generated script is run, and one line tells of it.
 
-ghost use Rattle.std.specs.Prelude.{◌≡◌, ◌==◌, ◌⊎◌, ◌≤◌, ◌<◌, ◌+◌, ◌-◌, ◌^◌, ◌++◌, ℕ, [], length, map, OnOk, OnErr, IfOk};
+ghost use Rattle.std.specs.Prelude.{◌≡◌, ◌==◌, ◌⊎◌, ◌≤◌, ◌<◌, ◌+◌, ◌-◌, ◌^◌, ◌++◌, ℕ, [], length};
+ghost use Rattle.std.specs.Prelude.{map, OnOk, OnErr, IfOk};
 ghost use Rattle.kernel_model.specs.Demo.{demo_lines, summary_of};
 ghost use Rattle.demo_text.specs.Tallies.{IsTally};
 ghost use Rattle.vino_top.specs.Bounds.{IsStock, IsSessionWithin};

@@ -1,13 +1,16 @@
 //! The run loop.
 
-ghost use Rattle.std.specs.Prelude.{◌≡◌, ◌≢◌, ◌==◌, ◌+◌, ◌-◌, ◌<◌, ◌≤◌, ◌^◌, ℕ, List, [], ◌∷◌, ◌++◌, length, false, Err, OnOk, IfOk, MatchResult, replicate, ◌⊎◌, drop};
+ghost use Rattle.std.specs.Prelude.{◌≡◌, ◌≢◌, ◌==◌, ◌+◌, ◌-◌, ◌<◌, ◌≤◌, ◌^◌, ℕ, List, [], ◌∷◌};
+ghost use Rattle.std.specs.Prelude.{◌++◌, length, false, Err, OnOk, IfOk, MatchResult, replicate};
+ghost use Rattle.std.specs.Prelude.{◌⊎◌, drop};
 ghost use Rattle.std.specs.Io.KnownBytes.{Appends, Consumes, IsAtEnd};
 ghost use Rattle.vino_base.specs.Streams.{IsUsed};
 ghost use Rattle.kernel_model.specs.Script.{LINE_BYTES};
 ghost use Rattle.filters.specs.Filtered.{AppendsPart};
 ghost use Rattle.vino_top.specs.Bounds.{IsSessionWithin, CanTake};
 ghost use Rattle.vino_top.specs.declared.run.Stop.TheVariants.{SinkFailed};
-ghost use Rattle.vino_top.specs.Run.{Place, place, moment, TakesOrStops, FeedsOrStops, WritesLast, devices, Ran, Broke, Lacked, stop_status, is_sink_failed};
+ghost use Rattle.vino_top.specs.Run.{Place, place, moment, TakesOrStops, FeedsOrStops, WritesLast};
+ghost use Rattle.vino_top.specs.Run.{devices, Ran, Broke, Lacked, stop_status, is_sink_failed};
 ghost use Rattle.vino_top.specs.Standing.{seen_of, IsBegun, last_bytes, last_status};
 ghost use Rattle.vino_base.specs.Disks.{DiskSeen};
 

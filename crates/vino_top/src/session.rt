@@ -1,6 +1,8 @@
 //! How a script runs, line by line.
 
-ghost use Rattle.std.specs.Prelude.{◌≡◌, ℕ, ◌+◌, ◌<◌, ◌≤◌, ◌-◌, ◌++◌, ◌^◌, true, false, List, [], length, map, codes, decimal, slice_index_or, None, Ok, Err, IfOk, OnOk, OnErr};
+ghost use Rattle.std.specs.Prelude.{◌≡◌, ℕ, ◌+◌, ◌<◌, ◌≤◌, ◌-◌, ◌++◌, ◌^◌, true, false, List, []};
+ghost use Rattle.std.specs.Prelude.{length, map, codes, decimal, slice_index_or, None, Ok, Err};
+ghost use Rattle.std.specs.Prelude.{IfOk, OnOk, OnErr};
 ghost use Rattle.vino_base.specs.Disks.{DiskSeen};
 ghost use Rattle.kernel_model.specs.declared.Keys.{Keys};
 ghost use Rattle.kernel_model.specs.Bare.{event_with};
@@ -19,7 +21,8 @@ ghost use Rattle.kernel_core.specs.declared.images.ImageRefusal.TheVariants.{Unl
 ghost use Rattle.kernel_core.specs.AddedImages.{slot_refused, has_memory, image_said, ImageIsAdded};
 ghost use Rattle.vino_top.specs.Bounds.{IsStock, IsSessionWithin, IsOnLine, CanRunEntry};
 ghost use Rattle.vino_top.specs.Standing.{seen_of, IsBegun, last_bytes, code_seen};
-ghost use Rattle.vino_top.specs.Run.{Place, place, LoadsFree, WantsAt, RunsLine, RunsEntry, LeavesText, boot_line, left_in};
+ghost use Rattle.vino_top.specs.Run.{Place, place, LoadsFree, WantsAt, RunsLine, RunsEntry};
+ghost use Rattle.vino_top.specs.Run.{LeavesText, boot_line, left_in};
 
 use crate::AllCalls;
 use crate::lines::Lines;

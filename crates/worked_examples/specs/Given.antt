@@ -8,7 +8,8 @@ use Rattle.kernel_model.specs.World.{Image, plain_image}
 use Rattle.kernel_model.specs.Directory.{sample_disk}
 use Rattle.kernel_model.specs.Images.{LoadFault}
 use Rattle.kernel_model.specs.Kernel.{Kernel}
-use Rattle.kernel_model.specs.Session.{Build, whole, Session, Written, silent, first_session, image_line_run, after_line, and_then}
+use Rattle.kernel_model.specs.Session.{Build, whole, Session, Written, silent, first_session}
+use Rattle.kernel_model.specs.Session.{image_line_run, after_line, and_then}
 use Rattle.kernel_model.specs.Outcome.{End, lines_after, outcome_of, written}
 use Rattle.kernel_model.specs.AllCalls.{all_calls}
 use Rattle.kernel_model.specs.Boxed.{boxed_code}

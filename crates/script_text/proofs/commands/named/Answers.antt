@@ -1,6 +1,6 @@
 use Rattle.std.proofs.Common.{rules, ◌≡◌, ◌∷◌, ◌∙◌, ap, sym, subst}
 use Rattle.kernel_model.specs.Script.{command_named}
-use Rattle.script_text.specs.Speaking.{SpeaksOf}
+use Rattle.script_text.specs.Syntax.{FindsSyntax}
 use Rattle.script_text.specs.Words.{front_word}
 use Rattle.script_text.proofs.Spelling.{named-first}
 use Rattle.script_text.proofs.commands.named.Goals as goal
@@ -8,5 +8,5 @@ use Rattle.script_text.proofs.commands.named.Goals as goal
 pub returns-in-Some : goal.returns-in-Some
 returns-in-Some c =
     let is : c.args.text.now ≡ c.in-Some.first.now ∷ c.in-Some.rest.now = search rules in
-    subst (λ named. SpeaksOf named c.named_after.result)
+    subst (λ named. FindsSyntax named c.named_after.result)
     (named-first c.in-Some.first.now c.in-Some.rest.now ∙ ap (λ text. command_named (front_word text)) (sym is)) c.named_after.ensures

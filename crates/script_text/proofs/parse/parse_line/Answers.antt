@@ -4,50 +4,50 @@ use Rattle.std.proofs.lemmas.Bool.Decides.{nat_tests}
 use Rattle.std.proofs.lemmas.List.Sums.{prefix_len-le-length}
 use Rattle.kernel_model.specs.Script.{command_named}
 use Rattle.script_text.specs.Answers.{Answers}
-use Rattle.script_text.specs.Speaking.{IsSpoken}
+use Rattle.script_text.specs.Syntax.{IsSyntax}
 use Rattle.script_text.specs.Words.{front_word}
-use Rattle.script_text.specs.declared.commands.Spoken.{Spoken}
+use Rattle.script_text.specs.declared.commands.Syntax.{Syntax}
 use Rattle.script_text.proofs.Lines.{parsed-first}
 use Rattle.script_text.proofs.Spelling.{named-size}
 use Rattle.script_text.proofs.parse.parse_line.Goals as goal
 
 pub skip-requires : goal.skip-requires
 skip-requires c =
-    let is : command_named (front_word c.args.line.now) ≡ Some c.in-Some.spoken.command = sym c.named.ensures.is ∙ ap (option_map (λ (s : Spoken). s.command)) c.in-Some.is in
-    let known : IsSpoken c.in-Some.spoken = subst (λ (o : Option Spoken). IfSome o (λ s. IsSpoken s)) c.in-Some.is c.named.ensures.known in
-    omega (arith, known.size, named-size c.args.line.now c.in-Some.spoken.command is, prefix_len-le-length (λ byte. not (byte == 32)) c.args.line.now)
+    let is : command_named (front_word c.args.line.now) ≡ Some c.in-Some.syntax.command = sym c.named.ensures.is ∙ ap (option_map (λ (s : Syntax). s.command)) c.in-Some.is in
+    let syntax : IsSyntax c.in-Some.syntax = subst (λ (o : Option Syntax). IfSome o (λ s. IsSyntax s)) c.in-Some.is c.named.ensures.syntax in
+    omega (arith, syntax.size, named-size c.args.line.now c.in-Some.syntax.command is, prefix_len-le-length (λ byte. not (byte == 32)) c.args.line.now)
 
 pub returns-in_default-clause-answer : goal.returns-in_default-clause-answer
 returns-in_default-clause-answer c =
     parsed-first _ _ _ _ c.requires (sym c.is_blank_line.ensures ∙ c.if-is_blank_line.false)
-    refl (sym c.named.ensures.is ∙ ap (option_map (λ (s : Spoken). s.command)) c.in_default.is)
+    refl (sym c.named.ensures.is ∙ ap (option_map (λ (s : Syntax). s.command)) c.in_default.is)
 
-pub returns-then-spoken-booted-clause-answer : goal.returns-then-spoken-booted-clause-answer
-returns-then-spoken-booted-clause-answer c =
-    let is : command_named (front_word c.args.line.now) ≡ Some c.in-Some.spoken.command = sym c.named.ensures.is ∙ ap (option_map (λ (s : Spoken). s.command)) c.in-Some.is in
-    let known : IsSpoken c.in-Some.spoken = subst (λ (o : Option Spoken). IfSome o (λ s. IsSpoken s)) c.in-Some.is c.named.ensures.known in
+pub returns-then-syntax-booted-clause-answer : goal.returns-then-syntax-booted-clause-answer
+returns-then-syntax-booted-clause-answer c =
+    let is : command_named (front_word c.args.line.now) ≡ Some c.in-Some.syntax.command = sym c.named.ensures.is ∙ ap (option_map (λ (s : Syntax). s.command)) c.in-Some.is in
+    let syntax : IsSyntax c.in-Some.syntax = subst (λ (o : Option Syntax). IfSome o (λ s. IsSyntax s)) c.in-Some.is c.named.ensures.syntax in
     parsed-first _ _ _ _ c.requires (sym c.is_blank_line.ensures ∙ c.if-is_blank_line.false)
-    refl is ∙ grind (arith, nat_tests, known.setup)
+    refl is ∙ grind (arith, nat_tests, syntax.setup)
 
 pub returns-in-BadWord-clause-answer : goal.returns-in-BadWord-clause-answer
 returns-in-BadWord-clause-answer c =
-    let is : command_named (front_word c.args.line.now) ≡ Some c.in-Some.spoken.command = sym c.named.ensures.is ∙ ap (option_map (λ (s : Spoken). s.command)) c.in-Some.is in
-    let known : IsSpoken c.in-Some.spoken = subst (λ (o : Option Spoken). IfSome o (λ s. IsSpoken s)) c.in-Some.is c.named.ensures.known in
+    let is : command_named (front_word c.args.line.now) ≡ Some c.in-Some.syntax.command = sym c.named.ensures.is ∙ ap (option_map (λ (s : Syntax). s.command)) c.in-Some.is in
+    let syntax : IsSyntax c.in-Some.syntax = subst (λ (o : Option Syntax). IfSome o (λ s. IsSyntax s)) c.in-Some.is c.named.ensures.syntax in
     parsed-first _ _ _ _ c.requires (sym c.is_blank_line.ensures ∙ c.if-is_blank_line.false)
-    (known.size ∙ named-size c.args.line.now c.in-Some.spoken.command is) is ∙ grind (arith, nat_tests, known.setup, known.forms)
+    (syntax.size ∙ named-size c.args.line.now c.in-Some.syntax.command is) is ∙ grind (arith, nat_tests, syntax.setup, syntax.forms)
 
 pub returns-in-BadNumber-clause-answer : goal.returns-in-BadNumber-clause-answer
 returns-in-BadNumber-clause-answer c =
-    let is : command_named (front_word c.args.line.now) ≡ Some c.in-Some.spoken.command = sym c.named.ensures.is ∙ ap (option_map (λ (s : Spoken). s.command)) c.in-Some.is in
-    let known : IsSpoken c.in-Some.spoken = subst (λ (o : Option Spoken). IfSome o (λ s. IsSpoken s)) c.in-Some.is c.named.ensures.known in
+    let is : command_named (front_word c.args.line.now) ≡ Some c.in-Some.syntax.command = sym c.named.ensures.is ∙ ap (option_map (λ (s : Syntax). s.command)) c.in-Some.is in
+    let syntax : IsSyntax c.in-Some.syntax = subst (λ (o : Option Syntax). IfSome o (λ s. IsSyntax s)) c.in-Some.is c.named.ensures.syntax in
     parsed-first _ _ _ _ c.requires (sym c.is_blank_line.ensures ∙ c.if-is_blank_line.false)
-    (known.size ∙ named-size c.args.line.now c.in-Some.spoken.command is) is ∙ grind (arith, nat_tests, known.setup, known.forms)
+    (syntax.size ∙ named-size c.args.line.now c.in-Some.syntax.command is) is ∙ grind (arith, nat_tests, syntax.setup, syntax.forms)
 
 pub returns-in-Said-clause-answer : goal.returns-in-Said-clause-answer
 returns-in-Said-clause-answer c =
-    let is : command_named (front_word c.args.line.now) ≡ Some c.in-Some.spoken.command = sym c.named.ensures.is ∙ ap (option_map (λ (s : Spoken). s.command)) c.in-Some.is in
-    let known : IsSpoken c.in-Some.spoken = subst (λ (o : Option Spoken). IfSome o (λ s. IsSpoken s)) c.in-Some.is c.named.ensures.known in
+    let is : command_named (front_word c.args.line.now) ≡ Some c.in-Some.syntax.command = sym c.named.ensures.is ∙ ap (option_map (λ (s : Syntax). s.command)) c.in-Some.is in
+    let syntax : IsSyntax c.in-Some.syntax = subst (λ (o : Option Syntax). IfSome o (λ s. IsSyntax s)) c.in-Some.is c.named.ensures.syntax in
     let said =
     parsed-first c.args.booted _ _ _ c.requires (sym c.is_blank_line.ensures ∙ c.if-is_blank_line.false)
-    (known.size ∙ named-size c.args.line.now c.in-Some.spoken.command is) is in
-    subst (Answers c.entry_said.result c.entry_said.new.bytes.items) (sym said) (grind (arith, nat_tests, known.setup, known.forms, c.entry_said.ensures.answer))
+    (syntax.size ∙ named-size c.args.line.now c.in-Some.syntax.command is) is in
+    subst (Answers c.entry_said.result c.entry_said.new.bytes.items) (sym said) (grind (arith, nat_tests, syntax.setup, syntax.forms, c.entry_said.ensures.answer))
