@@ -391,7 +391,8 @@ each_free users p (x ∷ ns) h =
 
 -- of a call other than `lock` no user lock counts
 no_lock_waits : (c : SysCall) (o : Object) → is_lock c ≡ false → waits_for_user c o ≡ false
-no_lock_waits c o h = grind arith
+no_lock_waits (TakeLock u) o h = absurd cc
+no_lock_waits c o h = refl
 
 -- so its pieces are free
 free_pieces : (m : Meaning) (laws : Laws m) (n p number : ℕ) (t : Stage) (v : World)

@@ -50,9 +50,9 @@ abbrev pub IsOwnFile : ℕ → Object → Type 0
 IsOwnFile p (OpenFile q fd) = q ≡ p
 IsOwnFile p _ = ⊤
 
--- the holder of a user lock is a blocker too: for the lock of a `lock` call, and nowhere else
+-- the holder of a user lock is a blocker too: for the lock that a `lock` call takes, and nowhere else
 abbrev pub waits_for_user : SysCall → Object → Bool
-waits_for_user (TakeLock u) (Lock l) = true
+waits_for_user (TakeLock u) (Lock l) = u == l
 waits_for_user _ _ = false
 
 -- the objects that a point adds
@@ -178,7 +178,7 @@ module _ (m : Meaning) where
     -- an open file that is needed is the caller's
     pub files : (v : World) (s : Objects) (p : ℕ) (t : Stage) (n : Need) → m.fits v s p t ≡ true →
         Contains (m.need v s p t) n → IsOwnFile p n.object
-    -- a user lock's holder hinders `lock` alone
+    -- a user lock's holder hinders a `lock` of it alone
     pub user : (v : World) (s : Objects) (p : ℕ) (t : Stage) (n : Need) → m.fits v s p t ≡ true →
         Contains (m.need v s p t) n →
         n.by_user ≡ waits_for_user t.call n.object

@@ -4,6 +4,7 @@ use Rattle.std.specs.Prelude.{◌≡◌, ℕ, zero, suc, ◌≤◌, Bool, true, 
 use Rattle.std.specs.Prelude.{◌∷◌, length, Option, Some, None, Result, Ok, Err}
 use Rattle.std.specs.List.{AllByRecursion as Each, range_with_len}
 use Rattle.std.proofs.Common.{arith, refl, sym, ◌∙◌}
+use Rattle.std.proofs.lemmas.Bool.{eq-eqb}
 use Rattle.kernel_model.specs.declared.Need.{Need}
 use Rattle.kernel_model.specs.declared.Kind.{Kind}
 use Rattle.kernel_model.specs.declared.Object.{Object}
@@ -135,7 +136,7 @@ own_piece (Write fd i off bytes) n v s p = (
       (λ o. refl),
 )
 own_piece Sync n v s p = (own Sync p _ refl refl tt, tt)
-own_piece (TakeLock u) n v s p = (record { file = tt; user = refl }, tt)
+own_piece (TakeLock u) n v s p = (record { file = tt; user = sym (eq-eqb u u refl) }, tt)
 own_piece (FreeLock u) n v s p = (own (FreeLock u) p _ refl refl tt, tt)
 own_piece (Poke k x) n v s p = (own (Poke k x) p _ refl refl tt, tt)
 own_piece (Peek k) n v s p = (own (Peek k) p _ refl refl tt, tt)

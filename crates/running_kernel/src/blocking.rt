@@ -108,12 +108,28 @@ pub(crate) fn first_hindrance<B: Policy>(
 }
 
 /// Whether the holder of a user lock may hinder a call: it hinders `lock` alone.
-fn waits_for_user(call: BareCall) -> bool
-    ensures { (bytes : List ℕ) (u : ℕ) → result ≡ waits_for_user (call_with call bytes) (Lock u) }
+fn is_lock(call: BareCall) -> bool
+    ensures { (bytes : List ℕ) → result ≡ is_lock (call_with call bytes) }
 {
     match call {
         BareCall::TakeLock(_) => true,
         _ => false,
+    }
+}
+
+/// Whether no holder of a user lock hinders a call of process p: only that of its own lock could
+/// hinder a `lock`.
+fn is_free_of_users<B: Policy>(store: &Store<B>, p: u8, call: BareCall) -> bool
+    ensures { (bytes : List ℕ) → result ≡ true →
+        IsFreeOfUsers (objects_of store.now).things.lock p (call_with call bytes) }
+{
+    match call {
+        BareCall::TakeLock(u) if u < 16 => match store.holder(u as u8) {
+            Some(holder) => holder == p,
+            None => true,
+        },
+        BareCall::TakeLock(_) => false,
+        _ => true,
     }
 }
 
@@ -161,7 +177,7 @@ fn piece_hindrance<C: Calls, B: Policy>(
         (C.Meaning.meaning.need (world_of_store store.now) (objects_of store.now)
         work.now.caller (stage_of work.now)) result }
 {
-    if locks.is_free() && !waits_for_user(work.call) {
+    if locks.is_free() && !is_lock(work.call) {
         return None;
     }
     hindrance_by_needs::<C, B>(locks, store, p, work)
@@ -240,7 +256,7 @@ impl<C: Calls, B: Policy> Running<C, B> {
             return false;
         }
         match flight.call.get() {
-            Some(call) => !waits_for_user(call.work.call),
+            Some(call) => is_free_of_users(&self.store, p, call.work.call),
             None => false,
         }
     }
@@ -260,7 +276,7 @@ impl<C: Calls, B: Policy> Running<C, B> {
             return false;
         };
         if flight.chain.levels.count() == 0 {
-            return !waits_for_user(call.work.call);
+            return !is_lock(call.work.call);
         }
         false
     }
