@@ -5,7 +5,7 @@ use Rattle.vino_base.specs.Memory.{SourceState, source_seen}
 use Rattle.vino_base.specs.declared.health.Health.TheVariants.{Sound}
 use Rattle.vino_top.specs.Does.{Does}
 use Rattle.vino_top.specs.Run.{devices}
-use Rattle.vino_top.specs.Words.{asked_by}
+use Rattle.command_line.specs.Words.{asked_by}
 use Rattle.lab_lines.specs.Kept.{Kept, nothing_kept, kept_seen}
 
 -- a source that holds exactly these bytes, of which no read was made

@@ -1,4 +1,4 @@
--- Where no call holds anything, nothing hinders a piece but `lock`.
+-- Where no call holds anything, nothing hinders a piece but that of a `lock` whose lock another process holds.
 use Rattle.std.proofs.Common.{◌≡◌, ℕ, suc, Bool, true, false, cond, not, ◌&&◌, ◌==◌, List, [], ◌∷◌, refl, ap, sym, ◌∙◌, arith, Option, Some, None}
 use Rattle.std.specs.Prelude.{find, Contains}
 use Rattle.kernel_model.specs.declared.Need.{Need}
@@ -8,6 +8,7 @@ use Rattle.kernel_model.specs.declared.Object.TheVariants.{Lock}
 use Rattle.kernel_model.specs.declared.SysCall.{SysCall}
 use Rattle.kernel_model.specs.World.{processes}
 use Rattle.kernel_model.specs.Laws.{waits_for_user}
+use Rattle.running_kernel.specs.Idle.{IsFreeOfUsers}
 use Rattle.kernel_model.specs.Locks.{LockTable, Hindrance, no_locks, hinders, lowest_holder, user_of, user_hindrance, hindrance_by, first_hindrance}
 
 none_found : (test : ℕ → Bool) (xs : List ℕ) → ((x : ℕ) → test x ≡ false) → find test xs ≡ None
@@ -22,28 +23,40 @@ and_false false = refl
 nobody_holds : (p : ℕ) (o : Object) (mode : Mode) → lowest_holder no_locks p o mode ≡ None
 nobody_holds p o mode = none_found (λ q. not (q == p) && hinders o mode (no_locks q)) processes (λ q. and_false (not (q == p)))
 
--- a need that nobody holds, and user locks don't hinder
-free_need : (users : ℕ → Option ℕ) (p q : ℕ) (n : Need) (ns : List Need) (found : Option ℕ) → lowest_holder no_locks p n.object n.mode ≡ found → found ≡ None → n.by_user ≡ false →
+-- a need that nobody holds, and no user lock's holder hinders
+free_need : (users : ℕ → Option ℕ) (p q : ℕ) (n : Need) (ns : List Need) (found : Option ℕ) → lowest_holder no_locks p n.object n.mode ≡ found → found ≡ None →
+    cond n.by_user (user_hindrance q n.object (user_of users n.object)) None ≡ None →
     first_hindrance no_locks users p q (n ∷ ns) ≡ first_hindrance no_locks users p q ns
 free_need users p q n ns found is none user =
-    ap (λ (h : Option ℕ). by_found (hindrance_by users q n h)) (is ∙ none) ∙ ap (λ b. by_found (cond b (user_hindrance q n.object (user_of users n.object)) None)) user
+    ap (λ (h : Option ℕ). by_found (hindrance_by users q n h)) (is ∙ none) ∙ ap by_found user
   where
     by_found : Option Hindrance → Option Hindrance
     by_found (Some h) = Some h
     by_found None = first_hindrance no_locks users p q ns
 
--- needs that user locks don't hinder
-free_hinders_none : (users : ℕ → Option ℕ) (p q : ℕ) (ns : List Need) → ((n : Need) → Contains ns n → n.by_user ≡ false) → first_hindrance no_locks users p q ns ≡ None
+-- needs of which no user lock's holder hinders one
+free_hinders_none : (users : ℕ → Option ℕ) (p q : ℕ) (ns : List Need) →
+    ((n : Need) → Contains ns n → cond n.by_user (user_hindrance q n.object (user_of users n.object)) None ≡ None) → first_hindrance no_locks users p q ns ≡ None
 free_hinders_none users p q [] h = refl
 free_hinders_none users p q (n ∷ ns) h =
     free_need users p q n ns None (nobody_holds p n.object n.mode) refl (h n (0, omega arith, refl))
     ∙ free_hinders_none users p q ns (λ m has. h m (suc has.0, omega (arith, has.1), has.2))
 
--- a call that no user lock's holder hinders
-only_lock : (c : SysCall) (o : Object) → waits_for_user c (Lock 0) ≡ false → waits_for_user c o ≡ false
-only_lock c o h = grind (arith, h)
+-- nothing, where what may stand is nothing
+cond_none : (b : Bool) (x : Option Hindrance) → (b ≡ true → x ≡ None) → cond b x None ≡ None
+cond_none true x h = h refl
+cond_none false x h = refl
 
-pub none_hinders : (t : LockTable) (users : ℕ → Option ℕ) (p q : ℕ) (c : SysCall) (ns : List Need) → t ≡ no_locks → waits_for_user c (Lock 0) ≡ false →
+-- a need of a call that no user lock's holder hinders
+unhindered : (users : ℕ → Option ℕ) (q : ℕ) (c : SysCall) (n : Need) → IsFreeOfUsers users q c → n.by_user ≡ waits_for_user c n.object →
+    cond n.by_user (user_hindrance q n.object (user_of users n.object)) None ≡ None
+unhindered users q c n free user = cond_none n.by_user (user_hindrance q n.object (user_of users n.object)) (λ waits. of_object n.object (sym user ∙ waits))
+  where
+    of_object : (o : Object) → waits_for_user c o ≡ true → user_hindrance q o (user_of users o) ≡ None
+    of_object (Lock u) waits = free u waits
+    of_object o waits = refl
+
+pub none_hinders : (t : LockTable) (users : ℕ → Option ℕ) (p q : ℕ) (c : SysCall) (ns : List Need) → t ≡ no_locks → IsFreeOfUsers users q c →
     ((n : Need) → Contains ns n → n.by_user ≡ waits_for_user c n.object) → None ≡ first_hindrance t users p q ns
-none_hinders t users p q c ns free plain user =
-    sym (ap (λ (table : LockTable). first_hindrance table users p q ns) free ∙ free_hinders_none users p q ns (λ n has. user n has ∙ only_lock c n.object plain))
+none_hinders t users p q c ns none free user =
+    sym (ap (λ (table : LockTable). first_hindrance table users p q ns) none ∙ free_hinders_none users p q ns (λ n has. unhindered users q c n free (user n has)))

@@ -1,8 +1,7 @@
--- Nothing blocks a call that is no `lock` where nothing is held.
-use Rattle.std.proofs.Common.{◌≡◌, ℕ, false, List, [], ◌∷◌, length, refl, ap, sym, ◌∙◌, arith, Some, None}
+-- Nothing blocks a call that no user lock's holder hinders, where nothing is held.
+use Rattle.std.proofs.Common.{◌≡◌, ℕ, List, [], ◌∷◌, length, refl, ap, sym, ◌∙◌, arith, Some, None}
 use Rattle.std.specs.Prelude.{option_map}
-use Rattle.kernel_model.specs.declared.Object.TheVariants.{Lock}
-use Rattle.kernel_model.specs.Laws.{Laws, waits_for_user}
+use Rattle.kernel_model.specs.Laws.{Laws}
 use Rattle.kernel_model.specs.Locks.{no_locks}
 use Rattle.kernel_model.specs.Meaning.{Meaning}
 use Rattle.lock_table.specs.Masks.{held}
@@ -12,13 +11,14 @@ use Rattle.placed_laws.specs.Placed.{placed_blocker, placed_blocker_from}
 use Rattle.placed_laws.specs.Soundness.{SoundInPlace}
 use Rattle.running_kernel.specs.declared.running.InFlight.{InFlight}
 use Rattle.running_kernel.specs.declared.running.Running.{Running}
+use Rattle.running_kernel.specs.Idle.{IsFreeOfUsers}
 use Rattle.running_kernel.specs.Views.{placed_of, flight_of, chain_of, IsRunning, HasAbstraction}
 use Rattle.running_kernel.proofs.FreeLemmas.{none_hinders}
 use Rattle.running_kernel.proofs.HinderLemmas.{stands, piece_hindered}
 
 pub plain_unblocked : {C B M : Type 0} {P : _} (m : Meaning) → SoundInPlace m → Laws m → (x : Running C B M P) (p : ℕ) (f : InFlight) →
     IsRunning x → HasAbstraction m (placed_of x) → held x.locks ≡ no_locks → (flight_of x.calls.items p).call ≡ Some f →
-    waits_for_user (call_of f.work) (Lock 0) ≡ false → length (chain_of x p).levels ≡ 0 → placed_blocker m (placed_of x) p ≡ None
+    IsFreeOfUsers (objects_of x.store).things.lock p (call_of f.work) → length (chain_of x p).levels ≡ 0 → placed_blocker m (placed_of x) p ≡ None
 plain_unblocked m sound laws x p f running abstraction free there plain none =
     let s = objects_of x.store in
     let stood = stands m sound x p f running abstraction there in

@@ -19,7 +19,7 @@ ghost use Rattle.kernel_model.specs.Locks.{LockTable as Table, hindrance_by, low
 ghost use Rattle.undo_calls.specs.UndoLevels.{Logged};
 ghost use Rattle.kernel_state.specs.Stores.{world_of_store, queue_of, objects_of};
 ghost use Rattle.lock_table.specs.Masks.{held};
-ghost use Rattle.running_kernel.specs.Idle.{IsIdle, IsPlain};
+ghost use Rattle.running_kernel.specs.Idle.{IsIdle, IsPlain, IsFreeOfUsers};
 ghost use Rattle.running_kernel.specs.Hindered.{hindrance_of, blocking_by, IsFirstHindrance, IsStepHindrance};
 
 use crate::flights::{flight, number_of};
@@ -107,28 +107,29 @@ pub(crate) fn first_hindrance<B: Policy>(
     None
 }
 
-/// Whether the holder of a user lock may hinder a call: it hinders `lock` alone.
-fn is_lock(call: BareCall) -> bool
-    ensures { (bytes : List ℕ) → result ≡ is_lock (call_with call bytes) }
+/// Whether no process but p holds user lock u. It isn't inlined: only a `lock` asks it.
+#[inline(never)]
+fn is_free_for<B: Policy>(store: &Store<B>, p: u8, u: u32) -> bool
+    ensures { result ≡ true →
+        user_hindrance p (Lock u) ((objects_of store.now).things.lock u) ≡ None }
 {
-    match call {
-        BareCall::TakeLock(_) => true,
-        _ => false,
+    if u >= 16 {
+        return false;
+    }
+    match store.holder(u as u8) {
+        Some(holder) => holder == p,
+        None => true,
     }
 }
 
-/// Whether no holder of a user lock hinders a call of process p: only that of its own lock could
-/// hinder a `lock`.
+/// Whether no holder of a user lock hinders a call of process p: that of its own lock may hinder a
+/// `lock`, and no other.
 fn is_free_of_users<B: Policy>(store: &Store<B>, p: u8, call: BareCall) -> bool
     ensures { (bytes : List ℕ) → result ≡ true →
         IsFreeOfUsers (objects_of store.now).things.lock p (call_with call bytes) }
 {
     match call {
-        BareCall::TakeLock(u) if u < 16 => match store.holder(u as u8) {
-            Some(holder) => holder == p,
-            None => true,
-        },
-        BareCall::TakeLock(_) => false,
+        BareCall::TakeLock(u) => is_free_for(store, p, u),
         _ => true,
     }
 }
@@ -157,7 +158,7 @@ fn hindrance_by_needs<C: Calls, B: Policy>(
 }
 
 /// What hinders the next piece of a call of process p. Where nothing is held, the needs are asked
-/// of `lock` alone.
+/// only of a `lock` whose lock another process holds.
 fn piece_hindrance<C: Calls, B: Policy>(
     locks: &LockTable,
     store: &Store<B>,
@@ -177,7 +178,7 @@ fn piece_hindrance<C: Calls, B: Policy>(
         (C.Meaning.meaning.need (world_of_store store.now) (objects_of store.now)
         work.now.caller (stage_of work.now)) result }
 {
-    if locks.is_free() && !is_lock(work.call) {
+    if locks.is_free() && is_free_of_users(store, p, work.call) {
         return None;
     }
     hindrance_by_needs::<C, B>(locks, store, p, work)
@@ -276,7 +277,7 @@ impl<C: Calls, B: Policy> Running<C, B> {
             return false;
         };
         if flight.chain.levels.count() == 0 {
-            return !is_lock(call.work.call);
+            return is_free_of_users(&self.store, p, call.work.call);
         }
         false
     }

@@ -7,8 +7,8 @@ use Rattle.kernel_model.specs.Text.{line, usage_text}
 use Rattle.kernel_model.specs.Filters.{Filter}
 use Rattle.kernel_model.specs.Filters as filter
 use Rattle.filters.specs.Filtered.{AppendsPart, Filtered}
-use Rattle.vino_top.specs.declared.words.Asked.{Asked}
-use Rattle.vino_top.specs.declared.words.Asked.TheVariants.{Run, Box, Check, Reseal, Asm, Dis, Lang, Demo, Nothing}
+use Rattle.command_line.specs.declared.Asked.{Asked}
+use Rattle.command_line.specs.declared.Asked.TheVariants.{Run, Box, Check, Reseal, Asm, Dis, Lang, Demo, Nothing}
 use Rattle.vino_top.specs.Run.{Place, place, Devices, Ran, Broke, Lacked}
 use Rattle.vino_top.specs.Demos.{DemoRan, DemoLacked}
 

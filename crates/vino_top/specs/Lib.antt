@@ -6,5 +6,4 @@ pub mod Bounds
 pub mod Run
 pub mod Demos
 pub mod Does
-pub mod Words
 pub mod Held

@@ -12,7 +12,7 @@ ghost use Rattle.kernel_model.specs.Opening.{opening_policy};
 ghost use Rattle.graft_points.specs.Shelf.{IsShelf, pol_of, first_choice};
 ghost use Rattle.vino_top.specs.Standing.{seen_of, IsBegun};
 ghost use Rattle.vino_top.specs.Bounds.{IsStock, IsSessionWithin};
-ghost use Rattle.vino_top.specs.Words.{asked_by};
+ghost use Rattle.command_line.specs.Words.{asked_by};
 ghost use Rattle.vino_top.specs.TextLaw.{TextDecides};
 ghost use Rattle.filters.specs.Filtered.{AppendsPart};
 ghost use Rattle.vino_top.specs.Run.{place, devices};
@@ -24,14 +24,13 @@ mod loading;
 mod rows;
 mod run;
 mod session;
-mod words;
 
 pub use crate::lines::Lines;
 use crate::run::Loading;
 pub use crate::session::{Buffers, Session};
-use crate::words::Asked;
 use call_pieces::Plain;
 use call_tables::Beside;
+use command_line::{Asked, read_words};
 pub use demo_text::demo_script;
 use event_points::EventPoints;
 use filters::write_all;
@@ -82,7 +81,7 @@ pub fn vino<S: Source, K: Sink, D: Disk>(
     ensures source { IsUsed (S.seen src.old).device (S.seen src.new).device (result == 3) }
     ensures sink { IsUsed (K.seen out.old).device (K.seen out.new).device (result == 4) }
 {
-    match words::read_words(words) {
+    match read_words(words) {
         Asked::Run(keys) => run_script(alloc, &keys, src, out, disk, shelf),
         Asked::Box(keys, keep) => filters::box_image(alloc, &keys, keep, src, out),
         Asked::Check(keys) => filters::check_image(alloc, &keys, src, out),

@@ -20,7 +20,7 @@ returns-then-piece_alone g κ c =
     let d = g.D.Disk.seen a.disk.now in
     let e = g.D.Disk.seen c.piece_alone.new.disk in
     let turns : a.turns ≡ suc (a.turns - 1) = omega (arith, c.if-turns-eq0.false) in
-    let free = plain_unblocked m (sound_in_place m g.C.Meaning.Rules.laws) g.C.Meaning.Rules.laws x a.p plain.flight at.running at.abstraction c.requires.idle.held plain.stands (plain.user 0) (ap length plain.none) in
+    let free = plain_unblocked m (sound_in_place m g.C.Meaning.Rules.laws) g.C.Meaning.Rules.laws x a.p plain.flight at.running at.abstraction c.requires.idle.held plain.stands plain.user (ap length plain.none) in
     went_as m (placed_settle m a.turns) (λ r. placed_settle m (a.turns - 1) (placed_step m a.p r)) x c.settle_alone.new.running a.trace.now.notes c.settle_alone.new.trace.notes d (g.D.Disk.seen c.settle_alone.new.disk)
     (settle_free m a.turns (a.turns - 1) (placed_of x) a.p turns (first_alone m a.running.now a.p c.requires.idle.order free))
     (went_then m (placed_step m a.p) (placed_settle m (a.turns - 1)) x (joined_in a.p c.piece_alone.new.running) c.settle_alone.new.running a.trace.now.notes c.piece_alone.new.trace.notes c.settle_alone.new.trace.notes d e (g.D.Disk.seen c.settle_alone.new.disk)
@@ -37,7 +37,7 @@ returns-else-piece_alone g κ c =
     let d = g.D.Disk.seen a.disk.now in
     let e = g.D.Disk.seen c.piece_alone.new.disk in
     let turns : a.turns ≡ suc (a.turns - 1) = omega (arith, c.if-turns-eq0.false) in
-    let free = plain_unblocked m (sound_in_place m g.C.Meaning.Rules.laws) g.C.Meaning.Rules.laws x a.p plain.flight at.running at.abstraction c.requires.idle.held plain.stands (plain.user 0) (ap length plain.none) in
+    let free = plain_unblocked m (sound_in_place m g.C.Meaning.Rules.laws) g.C.Meaning.Rules.laws x a.p plain.flight at.running at.abstraction c.requires.idle.held plain.stands plain.user (ap length plain.none) in
     let went = rw c.if-piece_alone.false at c.piece_alone.ensures.went in
     went_as m (placed_settle m a.turns) (λ r. placed_settle m (a.turns - 1) (placed_step m a.p r)) x y a.trace.now.notes c.piece_alone.new.trace.notes d e
     (settle_free m a.turns (a.turns - 1) (placed_of x) a.p turns (first_alone m a.running.now a.p c.requires.idle.order free))

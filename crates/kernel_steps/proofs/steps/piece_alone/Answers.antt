@@ -64,7 +64,7 @@ returns-clause-went g c =
     (λ h left. c.do_piece.ensures.caller f h there left) (c.do_piece.ensures.done f there) in
     let step = at_call m x (joined_in a.p y) a.p pc kept kept_new d e is
     (done_as (λ r. placed_call_step m a.p (Some pc) r) (finishes m a.p pc None) x (joined_in a.p y) a.p kept kept_new d e (asks_nowhere m x a.p pc plain.none plain.nowhere) done) in
-    let free = plain_unblocked m (sound_in_place m laws) laws x a.p f at.running at.abstraction c.requires.idle.held plain.stands (plain.user 0) (ap length plain.none) in
+    let free = plain_unblocked m (sound_in_place m laws) laws x a.p f at.running at.abstraction c.requires.idle.held plain.stands plain.user (ap length plain.none) in
     let own = ap (λ (l : Flight). l.call) (ap (λ fs. flight_of fs a.p) set) ∙ call_of_changed x.calls.items a.p slot within a.p ∙ same_place a.p slot (λ q. (flight_of x.calls.items q).call) in
     let chain = chains_stay x.calls.items a.p slot y.calls.items within set a.p in
     let levels = none_at y a.p (ap (λ l. l.levels) chain ∙ plain.none) in

@@ -1,17 +1,14 @@
-use Rattle.std.proofs.Common.{◌≡◌, false, sym, ◌∙◌}
-use Rattle.kernel_model.specs.declared.Object.TheVariants.{Lock}
-use Rattle.kernel_model.specs.Laws.{waits_for_user}
 use Rattle.lock_table.specs.Masks.{held}
 use Rattle.kernel_state.specs.Stores.{world_of_store, objects_of}
 use Rattle.call_pieces.specs.Works.{call_of, stage_of}
 use Rattle.running_kernel.proofs.FreeLemmas.{none_hinders}
 use Rattle.running_kernel.proofs.blocking.piece_hindrance.Goals as goal
 
-pub returns-then-not-waits_for_user : goal.returns-then-not-waits_for_user
-returns-then-not-waits_for_user g c =
+pub returns-then-is_free_of_users : goal.returns-then-is_free_of_users
+returns-then-is_free_of_users g c =
     let work = c.args.work.now in
     let s = objects_of c.args.store.now in
-    let plain : waits_for_user (call_of work) (Lock 0) ≡ false = sym (c.waits_for_user.ensures work.bytes.items 0) ∙ c.if-not-waits_for_user.true in
+    let plain = c.is_free_of_users.ensures work.bytes.items c.if-is_free_of_users.true in
     none_hinders (held c.args.locks.now) s.things.lock c.args.p c.args.p (call_of work)
     (g.C.Meaning.Rules.meaning.need (world_of_store c.args.store.now) s work.caller (stage_of work))
     (c.is_free.ensures.0 c.if-is_free.true) plain c.requires.user

@@ -1,8 +1,5 @@
-use Rattle.std.proofs.Common.{◌≡◌, true, false, length, ap, sym, ◌∙◌, arith}
+use Rattle.std.proofs.Common.{◌≡◌, true, length, ap, sym, ◌∙◌, arith}
 use Rattle.std.specs.Prelude.{option_copied}
-use Rattle.kernel_model.specs.declared.Object.TheVariants.{Lock}
-use Rattle.kernel_model.specs.Laws.{waits_for_user}
-use Rattle.call_pieces.specs.Works.{call_of}
 use Rattle.placed_laws.proofs.Laws.{sound_in_place}
 use Rattle.running_kernel.specs.declared.running.Flight.{Flight}
 use Rattle.running_kernel.specs.Views.{flight_of}
@@ -19,6 +16,5 @@ returns-then-count-eq0 g c =
     let there = sym (ap (λ (f : Flight). f.call) fl) ∙ (sym c.get.ensures ∙ ap option_copied c.in-Some.is) in
     let none = sym (ap (λ (f : Flight). length f.chain.levels) fl) ∙ sym c.count.ensures.value ∙ c.if-count-eq0.true in
     let free : c.is_free.result ≡ true = grind (arith, c.if-not-is_free.false) in
-    let said : c.waits_for_user.result ≡ false = grind (arith, clear) in
-    let plain : waits_for_user (call_of work) (Lock 0) ≡ false = sym (c.waits_for_user.ensures work.bytes.items 0) ∙ said in
+    let plain = c.is_free_of_users.ensures work.bytes.items clear in
     plain_unblocked m (sound_in_place m g.C.Meaning.Rules.laws) g.C.Meaning.Rules.laws x c.args.p c.in-Some.call.now c.requires.at.running c.requires.at.abstraction (c.is_free.ensures.0 free) there plain none

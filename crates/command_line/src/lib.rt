@@ -1,9 +1,13 @@
-//! The words of the command line.
+//! The words of the command line: what a call of the program asks.
+//!
+//! `docs/FORMATS.md` has their grammar.
+#![tactic(auto)]
 
 ghost use Rattle.std.specs.Prelude.{◌≡◌, map, string_bytes};
 ghost use Rattle.kernel_model.specs.Bytes.{number_of};
 ghost use Rattle.filters.specs.Keys.{keys_of};
-ghost use Rattle.vino_top.specs.Words.{asked_by, asked_by_one, asked_by_two, asked_by_three, asked_with, asked_number};
+ghost use Rattle.command_line.specs.Words.{asked_by, asked_by_one, asked_by_two, asked_by_three};
+ghost use Rattle.command_line.specs.Words.{asked_with, asked_number};
 
 use filters::read_keys;
 use graft_loader::Keys;
@@ -34,7 +38,8 @@ pub enum Asked {
     Nothing,
 }
 
-/// What the words ask.
+/// What the words ask, those behind the program's own name. Words that aren't in the grammar ask
+/// nothing.
 pub fn read_words(words: &[String]) -> Asked
     ensures { result ≡ asked_by (map (λ (w : _). string_bytes w) words.now) }
 {
@@ -46,6 +51,7 @@ pub fn read_words(words: &[String]) -> Asked
     }
 }
 
+/// What one word asks.
 fn asked_one(word: &[u8]) -> Asked
     ensures { result ≡ asked_by_one word.now }
 {
@@ -60,6 +66,7 @@ fn asked_one(word: &[u8]) -> Asked
     }
 }
 
+/// What two words ask.
 #[tactic(auto, unfolding(crate::specs::Words::asked_by_two))]
 fn asked_two(word: &[u8], other: &[u8]) -> Asked
     ensures { result ≡ asked_by_two word.now other.now }

@@ -4,8 +4,9 @@ use Rattle.kernel_model.specs.Bytes.{number_of}
 use Rattle.kernel_model.specs.World.{same_bytes}
 use Rattle.kernel_model.specs.declared.Keys.{Keys}
 use Rattle.filters.specs.Keys.{keys_of}
-use Rattle.vino_top.specs.declared.words.Asked.{Asked}
-use Rattle.vino_top.specs.declared.words.Asked.TheVariants.{Run, Box, Check, Reseal, Asm, Dis, Lang, Demo, Nothing}
+use Rattle.command_line.specs.declared.Asked.{Asked}
+use Rattle.command_line.specs.declared.Asked.TheVariants.{Run, Box, Check, Reseal, Asm, Dis, Lang}
+use Rattle.command_line.specs.declared.Asked.TheVariants.{Demo, Nothing}
 
 -- what a word asks beside keys, if there are some
 abbrev pub asked_with : (word : List ℕ) → Option Keys → Asked
