@@ -1,4 +1,4 @@
--- Where no call holds anything, nothing hinders a piece but that of a `lock` whose lock another process holds.
+-- Where no call holds anything, nothing hinders a piece of a call that waits for no user lock of another process.
 use Rattle.std.proofs.Common.{◌≡◌, ℕ, suc, Bool, true, false, cond, not, ◌&&◌, ◌==◌, List, [], ◌∷◌, refl, ap, sym, ◌∙◌, arith, Option, Some, None}
 use Rattle.std.specs.Prelude.{find, Contains}
 use Rattle.kernel_model.specs.declared.Need.{Need}
@@ -6,6 +6,8 @@ use Rattle.kernel_model.specs.declared.Mode.{Mode}
 use Rattle.kernel_model.specs.declared.Object.{Object}
 use Rattle.kernel_model.specs.declared.Object.TheVariants.{Lock}
 use Rattle.kernel_model.specs.declared.SysCall.{SysCall}
+use Rattle.kernel_model.specs.declared.SysCall.TheVariants.{TakeLock}
+use Rattle.kernel_model.specs.Alone.{is_lock}
 use Rattle.kernel_model.specs.World.{processes}
 use Rattle.kernel_model.specs.Laws.{waits_for_user}
 use Rattle.running_kernel.specs.Idle.{IsFreeOfUsers}
@@ -60,3 +62,11 @@ pub none_hinders : (t : LockTable) (users : ℕ → Option ℕ) (p q : ℕ) (c :
     ((n : Need) → Contains ns n → n.by_user ≡ waits_for_user c n.object) → None ≡ first_hindrance t users p q ns
 none_hinders t users p q c ns none free user =
     sym (ap (λ (table : LockTable). first_hindrance table users p q ns) none ∙ free_hinders_none users p q ns (λ n has. unhindered users q c n free (user n has)))
+
+-- no user lock's holder hinders a call that is no `lock`
+pub other_free : (users : ℕ → Option ℕ) (p : ℕ) (c : SysCall) → is_lock c ≡ false → IsFreeOfUsers users p c
+other_free users p c other u waits = absurd (clash c other waits)
+  where
+    clash : (c : SysCall) → is_lock c ≡ false → waits_for_user c (Lock u) ≡ true → ⊥
+    clash (TakeLock l) h k = cc
+    clash c h k = cc

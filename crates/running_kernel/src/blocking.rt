@@ -1,6 +1,7 @@
 //! What keeps a step from being taken.
 
 ghost use Rattle.std.specs.Prelude.{◌≡◌, ◌<◌, ℕ, true, None, Contains, option_map, All, List, length};
+ghost use Rattle.kernel_model.specs.Alone.{is_lock};
 ghost use Rattle.kernel_model.specs.Bare.{call_with};
 ghost use Rattle.kernel_model.specs.GraftStep.{next_needs, lock_user};
 ghost use Rattle.kernel_model.specs.Objects.{Things};
@@ -107,6 +108,16 @@ pub(crate) fn first_hindrance<B: Policy>(
     None
 }
 
+/// Whether a call is a `lock`.
+fn is_lock(call: BareCall) -> bool
+    ensures { (bytes : List ℕ) → result ≡ is_lock (call_with call bytes) }
+{
+    match call {
+        BareCall::TakeLock(_) => true,
+        _ => false,
+    }
+}
+
 /// Whether no process but p holds user lock u. It isn't inlined: only a `lock` asks it.
 #[inline(never)]
 fn is_free_for<B: Policy>(store: &Store<B>, p: u8, u: u32) -> bool
@@ -158,7 +169,7 @@ fn hindrance_by_needs<C: Calls, B: Policy>(
 }
 
 /// What hinders the next piece of a call of process p. Where nothing is held, the needs are asked
-/// only of a `lock` whose lock another process holds.
+/// of `lock` alone.
 fn piece_hindrance<C: Calls, B: Policy>(
     locks: &LockTable,
     store: &Store<B>,
@@ -178,7 +189,7 @@ fn piece_hindrance<C: Calls, B: Policy>(
         (C.Meaning.meaning.need (world_of_store store.now) (objects_of store.now)
         work.now.caller (stage_of work.now)) result }
 {
-    if locks.is_free() && is_free_of_users(store, p, work.call) {
+    if locks.is_free() && !is_lock(work.call) {
         return None;
     }
     hindrance_by_needs::<C, B>(locks, store, p, work)
@@ -277,7 +288,7 @@ impl<C: Calls, B: Policy> Running<C, B> {
             return false;
         };
         if flight.chain.levels.count() == 0 {
-            return is_free_of_users(&self.store, p, call.work.call);
+            return !is_lock(call.work.call);
         }
         false
     }
