@@ -3,4 +3,3 @@ pub mod Masks
 pub mod Needing
 pub mod Planning
 pub mod Fetching
-pub mod Lending

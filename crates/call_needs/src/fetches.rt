@@ -14,18 +14,16 @@ use crate::bodies::frame_bytes;
 use crate::plans::{Place, Plan, Room};
 use disk_log::DiskLog;
 use graft_points::Policy;
-use kernel_model::BLOCK_BYTES;
 use kernel_state::Store;
 use vino_base::{Disk, Failed};
 
 /// The block of a plan, for an access: the frame that holds it becomes the newest, or the block is
-/// read, by way of the buffer, into the frame that the plan has for it. An answer names the frame in
-/// use that is evicted in place of the candidate. What stands in the buffer isn't looked at.
+/// read into the frame that the plan has for it. An answer names the frame in use that is evicted in
+/// place of the candidate.
 pub fn fetch<B: Policy, D: Disk>(
     store: &mut Store<B>,
     disk: &mut D,
     log: &mut DiskLog,
-    buffer: &mut [u8; BLOCK_BYTES],
     r: Access,
     plan: Plan,
 ) -> Result<u8, Failed>
@@ -43,7 +41,7 @@ pub fn fetch<B: Policy, D: Disk>(
         Place::Missing(room) => {
             let Access { p, answer, .. } = r;
             let b = plan.block;
-            load(store, disk, log, buffer, Wanted { p, b, answer }, room)
+            load(store, disk, log, Wanted { p, b, answer }, room)
         }
     }
 }
@@ -53,7 +51,6 @@ pub fn fetch_ahead<B: Policy, D: Disk>(
     store: &mut Store<B>,
     disk: &mut D,
     log: &mut DiskLog,
-    buffer: &mut [u8; BLOCK_BYTES],
     r: Access,
     plan: Plan,
 ) -> Result<u8, Failed>
@@ -68,7 +65,7 @@ pub fn fetch_ahead<B: Policy, D: Disk>(
         Place::Missing(room) => {
             let Access { p, answer, .. } = r;
             let b = plan.block;
-            load(store, disk, log, buffer, Wanted { p, b, answer }, room)
+            load(store, disk, log, Wanted { p, b, answer }, room)
         }
     }
 }
@@ -81,12 +78,11 @@ struct Wanted {
     answer: Option<[u32; 4]>,
 }
 
-/// Reads a block that no frame holds into a frame, by way of the buffer.
+/// Reads a block that no frame holds into a frame.
 fn load<B: Policy, D: Disk>(
     store: &mut Store<B>,
     disk: &mut D,
     log: &mut DiskLog,
-    buffer: &mut [u8; BLOCK_BYTES],
     w: Wanted,
     room: Room,
 ) -> Result<u8, Failed>
@@ -99,21 +95,24 @@ fn load<B: Policy, D: Disk>(
         (moment store.old (D.seen disk.old) log.old)
         (moment store.new (D.seen disk.new) log.new) result }
 {
-    match log.read(disk, w.b, buffer) {
-        Ok(()) => place(store, disk, log, w, room, buffer),
+    match log.read(disk, w.b) {
+        Ok(()) => {
+            // For its length.
+            disk.block();
+            place(store, disk, log, w, room)
+        }
         Err(failed) => Err(failed),
     }
 }
 
-/// Puts a block that no frame holds, with these bytes, into the free frame that there is for it, or
-/// else into the one that the answer chooses, or by default into the candidate.
+/// Puts a block that no frame holds, which the disk lends, into the free frame that there is for it,
+/// or else into the one that the answer chooses, or by default into the candidate.
 fn place<B: Policy, D: Disk>(
     store: &mut Store<B>,
     disk: &mut D,
     log: &mut DiskLog,
     w: Wanted,
     room: Room,
-    bytes: &[u8; 512],
 ) -> Result<u8, Failed>
     requires ready { FetchReady (moment store.old (D.seen disk.old) log.old) w.p w.answer
         (false ∷ []) }
@@ -121,18 +120,18 @@ fn place<B: Policy, D: Disk>(
     requires missing { frame_of_block (cache_of store.old) w.b ≡ None }
     requires room { IsRoomIn store.old room }
     requires frame { HasRoomFrame store.old.cache room }
-    ensures { PlaceDone (place_of store.old w.p w.b w.answer) (λ blocks. blocks w.b ≡ bytes.now)
+    ensures { PlaceDone (place_of store.old w.p w.b w.answer) (λ blocks. blocks w.b ≡ D.lent disk.old)
         (moment store.old (D.seen disk.old) log.old)
         (moment store.new (D.seen disk.new) log.new) result }
 {
     match room {
         Room::Free(f) => {
-            store.fill(f, w.p, w.b, bytes);
+            store.fill(f, w.p, w.b, disk.block());
             Ok(f)
         }
         Room::Candidate(candidate) => {
             let frame = chosen(store, w.answer, candidate);
-            evict(store, disk, log, w, Victim { frame, candidate }, bytes)
+            evict(store, disk, log, w, Victim { frame, candidate })
         }
     }
 }
@@ -157,15 +156,14 @@ struct Victim {
     candidate: u8,
 }
 
-/// Puts a block that no frame holds, with these bytes, into a frame that is in use: what that held
-/// is written first, if it is dirty.
+/// Puts a block that no frame holds, which the disk lends, into a frame that is in use: what that
+/// held is written first, if it is dirty.
 fn evict<B: Policy, D: Disk>(
     store: &mut Store<B>,
     disk: &mut D,
     log: &mut DiskLog,
     w: Wanted,
     v: Victim,
-    bytes: &[u8; 512],
 ) -> Result<u8, Failed>
     requires ready { FetchReady (moment store.old (D.seen disk.old) log.old) w.p w.answer
         (false ∷ []) }
@@ -173,20 +171,22 @@ fn evict<B: Policy, D: Disk>(
     requires missing { frame_of_block (cache_of store.old) w.b ≡ None }
     requires frame { in_use v.frame store.old.cache ≡ true }
     requires candidate { in_use v.candidate store.old.cache ≡ true }
-    ensures { PlaceDone (evict_of store.old w.p w.b v.frame v.candidate bytes.now) (λ blocks. ⊤)
-        (moment store.old (D.seen disk.old) log.old)
+    ensures { PlaceDone (evict_of store.old w.p w.b v.frame v.candidate (D.lent disk.old))
+        (λ blocks. ⊤) (moment store.old (D.seen disk.old) log.old)
         (moment store.new (D.seen disk.new) log.new) result }
 {
     match store.dirty_block(v.frame) {
         Some(old) => {
+            // The write ends the loan.
+            let bytes = *disk.block();
             if let Err(failed) = log.write(disk, old, frame_bytes(store, v.frame)) {
                 return Err(failed);
             }
-            store.replace(v.frame, v.candidate, w.p, w.b, bytes);
+            store.replace(v.frame, v.candidate, w.p, w.b, &bytes);
             Ok(v.frame)
         }
         None => {
-            store.replace(v.frame, v.candidate, w.p, w.b, bytes);
+            store.replace(v.frame, v.candidate, w.p, w.b, disk.block());
             Ok(v.frame)
         }
     }

@@ -2,7 +2,6 @@
 
 ghost use Rattle.std.specs.Prelude.{◌≡◌, ◌≤◌, ◌<◌, ◌+◌, ◌++◌, true, Some, None, drop, length};
 ghost use Rattle.std.specs.Prelude.{slice_range, IfSome, IfNone};
-ghost use Rattle.std.specs.Borrow.{sem};
 ghost use Rattle.kernel_model.specs.Fetch.{bytes_of};
 ghost use Rattle.buffer_cache.specs.Frames.{in_use};
 ghost use Rattle.kernel_state.specs.Stores.{body_at, cache_of};
@@ -33,8 +32,6 @@ impl Model for Gift {
 }
 
 impl Gift {
-    ghost use Rattle.call_needs.specs.Lending.{LendsBuffer};
-
     /// No bytes.
     pub fn new() -> Gift
         ensures { result ≡ None }
@@ -51,15 +48,6 @@ impl Gift {
         ensures { self.new ≡ None }
     {
         self.given = false;
-    }
-
-    /// The buffer itself, lent as it stands: no byte is cleared or moved. What was given is
-    /// forgotten, and what is written there isn't given.
-    pub fn buffer(&mut self) -> &mut [u8; BLOCK_BYTES]
-        ensures* nothing { sem 𝓛 (LendsBuffer self.entry result) }
-    {
-        self.given = false;
-        &mut self.block
     }
 
     /// The bytes, if some were given.

@@ -109,7 +109,7 @@ fn bare_piece<B: Policy, D: Disk>(
                 len,
                 answer,
             };
-            write(store, disk, log, gave.buffer(), access, bytes)
+            write(store, disk, log, access, bytes)
         }
         BareCall::Sync => sync(store, disk, log),
         BareCall::TakeLock(u) => take_lock(store, p, u),

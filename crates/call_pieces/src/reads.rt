@@ -20,7 +20,7 @@ use crate::Next;
 use call_needs::{Access, Gift, fetch, fetch_ahead, plan_ahead, plan_block};
 use disk_log::DiskLog;
 use graft_points::Policy;
-use kernel_model::{BLOCK_BYTES, OpenRow, Refusal, Reply};
+use kernel_model::{OpenRow, Refusal, Reply};
 use kernel_state::{Ahead, Store};
 use vino_base::Disk;
 
@@ -59,11 +59,11 @@ pub(crate) fn read<B: Policy, D: Disk>(
             *piece = 2;
             second(store, r, opened)
         }
-        _ => later(store, disk, log, gave.buffer(), r, opened),
+        _ => later(store, disk, log, r, opened),
     }
 }
 
-/// The first piece: the block is fetched, by way of the gift's buffer, and its bytes are given.
+/// The first piece: the block is fetched, and its bytes are given.
 fn first<B: Policy, D: Disk>(
     store: &mut Store<B>,
     disk: &mut D,
@@ -86,7 +86,7 @@ fn first<B: Policy, D: Disk>(
         Ok(plan) => plan,
         Err(refusal) => return Next::Fails(refusal),
     };
-    let Ok(f) = fetch(store, disk, log, gave.buffer(), r, plan) else {
+    let Ok(f) = fetch(store, disk, log, r, plan) else {
         return Next::Fails(Refusal::DiskFault);
     };
     let row = OpenRow {
@@ -144,12 +144,11 @@ fn second<B: Policy>(store: &mut Store<B>, r: Access, opened: OpenRow) -> Next
     Next::Goes
 }
 
-/// A later piece: one block more is fetched ahead, by way of the buffer.
+/// A later piece: one block more is fetched ahead.
 fn later<B: Policy, D: Disk>(
     store: &mut Store<B>,
     disk: &mut D,
     log: &mut DiskLog,
-    buffer: &mut [u8; BLOCK_BYTES],
     r: Access,
     opened: OpenRow,
 ) -> Next
@@ -164,7 +163,7 @@ fn later<B: Policy, D: Disk>(
         ReadContinues 2 2 (Some opened) ((objects_of store.new).things.file r.p r.fd) }
 {
     let plan = plan_ahead(store, &opened);
-    let Ok(_) = fetch_ahead(store, disk, log, buffer, r, plan) else {
+    let Ok(_) = fetch_ahead(store, disk, log, r, plan) else {
         return Next::Fails(Refusal::DiskFault);
     };
     let row = OpenRow {

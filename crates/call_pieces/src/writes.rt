@@ -11,16 +11,15 @@ use crate::Next;
 use call_needs::{Access, fetch, plan_block};
 use disk_log::DiskLog;
 use graft_points::Policy;
-use kernel_model::{BLOCK_BYTES, Refusal, Reply};
+use kernel_model::{Refusal, Reply};
 use kernel_state::Store;
 use vino_base::Disk;
 
-/// These bytes are written. The block comes to its frame by way of the buffer.
+/// These bytes are written.
 pub fn write<B: Policy, D: Disk>(
     store: &mut Store<B>,
     disk: &mut D,
     log: &mut DiskLog,
-    buffer: &mut [u8; BLOCK_BYTES],
     r: Access,
     bytes: &[u8],
 ) -> Next
@@ -36,7 +35,7 @@ pub fn write<B: Policy, D: Disk>(
         Ok(plan) => plan,
         Err(refusal) => return Next::Fails(refusal),
     };
-    match fetch(store, disk, log, buffer, r, plan) {
+    match fetch(store, disk, log, r, plan) {
         Ok(f) => {
             store.patch(f, r.off, bytes);
             Next::Ends(Reply::Plain)

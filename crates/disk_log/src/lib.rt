@@ -52,17 +52,17 @@ impl DiskLog {
         self.failed.as_slice()
     }
 
-    /// Reads block b. It is always inlined: no answer is moved then.
+    /// Reads block b, which the disk lends then. It is always inlined: no answer is moved then.
     #[inline(always)]
-    pub fn read<D: Disk>(&mut self, disk: &mut D, b: u32, to: &mut [u8; 512]) -> Result<(), Failed>
+    pub fn read<D: Disk>(&mut self, disk: &mut D, b: u32) -> Result<(), Failed>
         requires room { length self.old < CALLS }
         requires block { b < (D.seen disk.old).size }
         ensures noted { self.new ≡ self.old ++ is_err result ∷ [] }
         ensures known { (blocks : Blocks) → Knows (D.seen disk.old).known blocks →
-            Knows (D.seen disk.new).known blocks × OnOk result (to.new ≡ blocks b) }
+            Knows (D.seen disk.new).known blocks × OnOk result (D.lent disk.new ≡ blocks b) }
         ensures calls { CallsExtend (D.seen disk.old) (D.seen disk.new) self.old self.new }
     {
-        let result = disk.read_block(b, to);
+        let result = disk.read_block(b);
         note(&mut self.failed, result.is_err());
         result
     }
@@ -103,15 +103,14 @@ mod tests {
         let mut disk = MemDisk::sample(alloc, Vec::from_slice(alloc, &[1, 3])?)?;
         let mut log = DiskLog::new();
         let mut block = [0u8; 512];
-        assert!(rt; log.read(&mut disk, 2, &mut block).is_err());
-        assert!(rt; log.read(&mut disk, 2, &mut block).is_ok());
-        assert_eq!(rt; block[0], 62);
+        assert!(rt; log.read(&mut disk, 2).is_err());
+        assert!(rt; log.read(&mut disk, 2).is_ok());
+        assert_eq!(rt; disk.block()[0], 62);
         block[0] = 7;
         assert!(rt; log.write(&mut disk, 2, &block).is_err());
         assert!(rt; log.write(&mut disk, 2, &block).is_ok());
-        block[0] = 0;
-        assert!(rt; log.read(&mut disk, 2, &mut block).is_ok());
-        assert_eq!(rt; block[0], 7);
+        assert!(rt; log.read(&mut disk, 2).is_ok());
+        assert_eq!(rt; disk.block()[0], 7);
         assert!(rt; log.calls() == [true, false, true, false, false].as_slice());
         log.clear();
         assert!(rt; log.calls().is_empty());

@@ -99,11 +99,10 @@ impl<C: Calls, B: Policy> Kernel<C, B> {
         ensures size { self.new.running.store.size ≡ (D.seen disk.old).size }
     {
         let size = disk.size();
-        let mut block = [0; 512];
         self.log.clear();
-        match self.log.read(disk, 0, &mut block) {
+        match self.log.read(disk, 0) {
             Ok(()) => {
-                let directory = read_directory(&block, size);
+                let directory = read_directory(disk.block(), size);
                 let files = directory.count();
                 self.running.restart(setup, size, directory);
                 BootNote::Up(setup.frames, size, files)

@@ -134,11 +134,10 @@ pub fn spare_disk(rt: &HostRuntime, lowered: &Lowered) -> Result<Spare, NoMemory
 fn bytes_of(alloc: Global, disk: &mut FileDisk) -> Result<Vec<u8>, NoMemory> {
     let mut bytes = Vec::new(alloc);
     for b in 0..disk.size() {
-        let mut block = [0; 512];
-        if b >= disk.size() || disk.read_block(b, &mut block).is_err() {
+        if b >= disk.size() || disk.read_block(b).is_err() {
             return Ok(Vec::new(alloc));
         }
-        if bytes.extend_from_slice(&block).is_err() {
+        if bytes.extend_from_slice(disk.block()).is_err() {
             return Err(NoMemory);
         }
     }

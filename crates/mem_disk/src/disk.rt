@@ -7,7 +7,7 @@ ghost use Rattle.std.specs.Option.{IfSome};
 ghost use Rattle.std.specs.Result.{is_err, OnOk};
 ghost use Rattle.vino_base.specs.Faults.{HasCause, counted};
 ghost use Rattle.vino_base.specs.Calls.{Plan, after_call, call_fails};
-ghost use Rattle.mem_disk.specs.DiskState.{blocks_of, disk_after, disk_seen};
+ghost use Rattle.mem_disk.specs.DiskState.{blocks_of, disk_after, disk_seen, last_block};
 
 use kernel_model::BLOCK_BYTES;
 use std::marker::Model;
@@ -15,24 +15,33 @@ use vino_base::{CallPlan, Disk, Failed};
 
 /// A disk in memory. Chosen calls of it fail, and no other.
 ///
-/// Contracts see the list of its blocks, its calls and its count of faults.
+/// Contracts see the list of its blocks, its calls, its count of faults, and which block was read
+/// last.
 #[derive(Drop)]
 pub struct MemDisk {
     bytes: Vec<u8>,
     size: u32,
     plan: CallPlan,
     faults: u64,
+    /// The block that was read last.
+    last: u32,
 }
 
 impl Model for MemDisk {
-    ghost use Rattle.std.specs.Prelude.{◌≡◌, ◌≤◌, ◌/◌, vec_len};
+    ghost use Rattle.std.specs.Prelude.{◌≡◌, ◌≤◌, ◌<◌, ◌/◌, vec_len};
     ghost use Rattle.mem_disk.specs.DiskState.{DiskState, blocks_of};
 
     ghost Value = { DiskState };
 
-    ghost view = { λ d. record { blocks = blocks_of d.bytes.items; plan = d.plan; faults = d.faults } };
+    ghost view = { λ d. record {
+      blocks = blocks_of d.bytes.items;
+      plan = d.plan;
+      faults = d.faults;
+      last = d.last;
+    } };
 
-    ghost invariant = { λ d. (d.size ≡ vec_len d.bytes / 512) × (1 ≤ d.size) × (d.size ≤ 4096) };
+    ghost invariant = { λ d. (d.size ≡ vec_len d.bytes / 512) × (1 ≤ d.size) × (d.size ≤ 4096)
+        × (d.last < d.size) };
 }
 
 impl MemDisk {
@@ -46,6 +55,7 @@ impl MemDisk {
           blocks = blocks_of bytes.items;
           plan = record { made = 0; failing = fails.items };
           faults = 0;
+          last = 0;
         } }
     {
         let size = (bytes.len() / BLOCK_BYTES) as u32;
@@ -54,6 +64,7 @@ impl MemDisk {
             size,
             plan: CallPlan::new(fails),
             faults: 0,
+            last: 0,
         }
     }
 }
@@ -61,25 +72,32 @@ impl MemDisk {
 impl Disk for MemDisk {
     ghost seen = { disk_seen };
 
+    ghost lent = { last_block };
+
     fn size(&self) -> u32 {
         self.size
     }
 
-    fn read_block(&mut self, b: u32, to: &mut [u8; 512]) -> Result<(), Failed>
+    fn read_block(&mut self, b: u32) -> Result<(), Failed>
         requires { b < length self.old.blocks }
         ensures cause { HasCause self.old.faults self.new.faults result }
         ensures fails { is_err result ≡ call_fails self.old.plan }
-        ensures after { self.new ≡ disk_after self.old self.old.blocks }
-        ensures buffer { to.new
-            ≡ cond (call_fails self.old.plan) to.old (slice_index_or self.old.blocks b []) }
-        ensures given { OnOk result (slice_get self.old.blocks b ≡ Some to.new) }
+        ensures after { self.new ≡ record (disk_after self.old self.old.blocks) { last = b } }
+        ensures given { OnOk result (slice_get self.old.blocks b ≡ Some (last_block self.new)) }
     {
+        self.last = b;
         if self.plan.next_fails() {
             self.faults = counted_up(self.faults);
             return Err(Failed);
         }
-        get_block(&self.bytes, b, to);
         Ok(())
+    }
+
+    fn block(&self) -> &[u8; 512]
+        ensures value { result.now ≡ last_block self.now }
+        ensures whole { length (last_block self.now) ≡ 512 }
+    {
+        block_at(&self.bytes, self.last)
     }
 
     fn write_block(&mut self, b: u32, from: &[u8; 512]) -> Result<(), Failed>
@@ -113,14 +131,16 @@ fn start_of(bytes: &[u8], b: u32) -> usize
     BLOCK_BYTES * b as usize
 }
 
-/// Copies block b out.
-fn get_block(bytes: &[u8], b: u32, to: &mut [u8; 512])
+/// Block b, lent.
+fn block_at(bytes: &[u8], b: u32) -> &[u8; 512]
     requires { b < length (blocks_of bytes.now) }
-    ensures known { slice_get (blocks_of bytes.now) b ≡ Some to.new }
-    ensures value { to.new ≡ slice_index_or (blocks_of bytes.now) b [] }
+    ensures { result.now ≡ slice_index_or (blocks_of bytes.now) b [] }
 {
     let start = start_of(bytes, b);
-    to.copy_from_slice(&bytes[start..start + BLOCK_BYTES]);
+    match <&[u8; 512]>::try_from(&bytes[start..start + BLOCK_BYTES]) {
+        Ok(block) => block,
+        Err(_) => unreachable!(),
+    }
 }
 
 /// Replaces block b.

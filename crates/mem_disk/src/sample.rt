@@ -24,6 +24,7 @@ impl MemDisk {
           blocks = blocks_of_disk sample_disk;
           plan = record { made = 0; failing = fails.items };
           faults = 0;
+          last = 0;
         }) }
     {
         match sample_bytes(alloc, SAMPLE_BLOCKS) {

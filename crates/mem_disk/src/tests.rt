@@ -12,7 +12,11 @@ const ENTRIES: &[u8; 96] = b"alpha\0\0\0\0\0\0\0\0\0\0\0\x01\0\0\0\x08\0\0\0\0\x
 
 /// Reads block b, if there is one. Whether that went well.
 fn reads(disk: &mut MemDisk, b: u32, to: &mut [u8; 512]) -> bool {
-    b < disk.size() && disk.read_block(b, to).is_ok()
+    if b >= disk.size() || disk.read_block(b).is_err() {
+        return false;
+    }
+    *to = *disk.block();
+    true
 }
 
 /// Writes block b, if there is one. Whether that went well.

@@ -1,6 +1,6 @@
 //! A file as a disk.
 
-ghost use Rattle.std.specs.Prelude.{◌≡◌, ◌≤◌, ◌<◌, ◌*◌, None};
+ghost use Rattle.std.specs.Prelude.{◌≡◌, ◌≤◌, ◌<◌, ◌*◌, None, length};
 ghost use Rattle.std.specs.Result.{IsErr};
 ghost use Rattle.vino_base.specs.Faults.{HasCause, Rose};
 
@@ -18,6 +18,8 @@ pub struct FileDisk {
     file: Option<File>,
     size: u32,
     faults: u64,
+    /// What the last read left.
+    block: [u8; 512],
     ghost least: { 1 ≤ size },
     ghost most: { size ≤ 4096 },
 }
@@ -35,6 +37,7 @@ impl FileDisk {
             file: Some(file),
             size,
             faults: 0,
+            block: [0; 512],
         }
     }
 
@@ -49,6 +52,7 @@ impl FileDisk {
             file: None,
             size: 1,
             faults: 0,
+            block: [0; 512],
         }
     }
 
@@ -74,11 +78,13 @@ fn start_of(b: u32) -> u64
 impl Disk for FileDisk {
     ghost seen = { λ d. record { size = d.size; known = None; plan = None; faults = d.faults } };
 
+    ghost lent = { λ d. d.block };
+
     fn size(&self) -> u32 {
         self.size
     }
 
-    fn read_block(&mut self, b: u32, to: &mut [u8; 512]) -> Result<(), Failed>
+    fn read_block(&mut self, b: u32) -> Result<(), Failed>
         requires { b < self.old.size }
         ensures cause { HasCause self.old.faults self.new.faults result }
         ensures same_size { self.new.size ≡ self.old.size }
@@ -86,10 +92,17 @@ impl Disk for FileDisk {
         ensures closed { self.old.file ≡ None → IsErr result }
     {
         let read = match &self.file {
-            Some(file) => file.read_exact_at(to, start_of(b)).is_ok(),
+            Some(file) => file.read_exact_at(&mut self.block, start_of(b)).is_ok(),
             None => false,
         };
         if read { Ok(()) } else { Err(self.failed()) }
+    }
+
+    fn block(&self) -> &[u8; 512]
+        ensures value { result.now ≡ self.now.block }
+        ensures whole { length self.now.block ≡ 512 }
+    {
+        &self.block
     }
 
     fn write_block(&mut self, b: u32, from: &[u8; 512]) -> Result<(), Failed>

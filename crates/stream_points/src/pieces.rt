@@ -73,7 +73,7 @@ pub(crate) fn piece<B: Policy, D: Disk>(
                 len,
                 answer,
             };
-            take_block(work, store, disk, log, gave.buffer(), access)
+            take_block(work, store, disk, log, access)
         }
         BareCall::StreamRead(_, _, _, _) => {
             give_out(gave, store, p, answer, work.carried.as_slice());
@@ -93,7 +93,7 @@ pub(crate) fn piece<B: Policy, D: Disk>(
                 len,
                 answer,
             };
-            write(store, disk, log, gave.buffer(), access, bytes)
+            write(store, disk, log, access, bytes)
         }
         _ => plain_piece(work, store, answer, disk, log, gave),
     }

@@ -35,14 +35,12 @@ pub(crate) struct Range {
     pub len: u32,
 }
 
-/// The first piece of a stream read: the bytes go into the call, and the open file stays as it is. The
-/// block comes to its frame by way of the buffer.
+/// The first piece of a stream read: the bytes go into the call, and the open file stays as it is.
 pub(crate) fn take_block<B: Policy, D: Disk>(
     work: &mut Work,
     store: &mut Store<B>,
     disk: &mut D,
     log: &mut DiskLog,
-    buffer: &mut [u8; BLOCK_BYTES],
     r: Access,
 ) -> Next
     requires alive { lives (queue_of store.old) r.p ≡ true }
@@ -63,7 +61,7 @@ pub(crate) fn take_block<B: Policy, D: Disk>(
         Ok(plan) => plan,
         Err(refusal) => return Next::Fails(refusal),
     };
-    match fetch(store, disk, log, buffer, r, plan) {
+    match fetch(store, disk, log, r, plan) {
         Ok(f) => {
             work.carry_nothing();
             copy_bytes_of(store, f, r.off, r.len, &mut work.carried);

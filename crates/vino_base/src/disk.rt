@@ -16,6 +16,9 @@ pub trait Disk {
     /// in the plan.
     ghost seen: { Self → DiskSeen };
 
+    /// What `block` lends.
+    ghost lent: { Self → List ℕ };
+
     /// How many blocks it has.
     fn size(&self) -> u32
         ensures count { result ≡ (seen self.now).size }
@@ -25,14 +28,19 @@ pub trait Disk {
         ensures whole { (bs : List (List ℕ)) → (seen self.now).known ≡ Some bs →
             (b : ℕ) → b < result → length (slice_index_or bs b []) ≡ 512 };
 
-    /// Gives block b. A failed read leaves the blocks as they are.
-    fn read_block(&mut self, b: u32, to: &mut [u8; 512]) -> Result<(), Failed>
+    /// Reads block b, which `block` lends then. A failed read leaves the blocks as they are.
+    fn read_block(&mut self, b: u32) -> Result<(), Failed>
         requires { b < (seen self.old).size }
         ensures after { seen self.new ≡ called (seen self.new).faults (seen self.old) }
         ensures cause { HasCause (seen self.old).faults (seen self.new).faults result }
         ensures fails { (p : Plan) → (seen self.old).plan ≡ Some p → is_err result ≡ call_fails p }
         ensures given { (bs : List (List ℕ)) → (seen self.old).known ≡ Some bs →
-            OnOk result (slice_get bs b ≡ Some to.new) };
+            OnOk result (slice_get bs b ≡ Some (lent self.new)) };
+
+    /// The block that was read last: it isn't copied. It is good until the next call.
+    fn block(&self) -> &[u8; 512]
+        ensures value { result.now ≡ lent self.now }
+        ensures whole { length (lent self.now) ≡ 512 };
 
     /// Replaces block b. A failed write leaves the blocks as they are.
     fn write_block(&mut self, b: u32, from: &[u8; 512]) -> Result<(), Failed>

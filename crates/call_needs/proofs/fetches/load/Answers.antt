@@ -14,7 +14,7 @@ returns-in-Ok g c =
     let v = world_of_store s in
     let pol = policies_of s 1 in
     let place = c.place in
-    let bytes : List ℕ = c.read.new.to in
+    let bytes : List ℕ = g.D.Disk.lent c.read.new.disk in
     let is = λ (blocks : Blocks) (rest : List Bool). read_is v pol c.args.w.p c.args.w.b c.args.w.answer
     (cache_of s) blocks (place.new.log ++ rest) (place.ensures.first rest) in
     record {
@@ -29,7 +29,7 @@ returns-in-Ok g c =
                 (place.ensures.tells blocks rest (sym read.1) read.0);
           };
       some = fetch_alike v (load_of s c.args.w.p c.args.w.b c.args.w.answer) place.result
-          (cache_of place.new.store) place.new.log bytes c.read.array_long
+          (cache_of place.new.store) place.new.log bytes c.block.ensures.whole
           (λ rest.
           subst (λ (x : Fetched). FetchLeft x (λ b. bytes) place.result (cache_of place.new.store)
           (length place.new.log)) (sym (is (λ b. bytes) rest))

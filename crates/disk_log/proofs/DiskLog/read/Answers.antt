@@ -7,7 +7,7 @@ pub returns-clause-known : goal.returns-clause-known
 returns-clause-known g c blocks tells =
     let d = g.D.Disk.seen c.args.disk.now in
     let call = c.read_block-result in
-    read_tells d.known (g.D.Disk.seen call.new.self).known call.result c.args.b call.new.to blocks
+    read_tells d.known (g.D.Disk.seen call.new.self).known call.result c.args.b (g.D.Disk.lent call.new.self) blocks
     (ap (λ (x : DiskSeen). x.known) call.ensures.after) call.ensures.given tells
 
 pub returns-clause-calls : goal.returns-clause-calls
