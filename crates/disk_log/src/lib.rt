@@ -1,31 +1,34 @@
 //! The calls of a disk, with a list of which of them failed.
 #![tactic(auto)]
 
-ghost use Rattle.std.specs.Prelude.{◌≡◌, ℕ, ◌+◌, ◌<◌, ◌≤◌, List, [], ◌∷◌, ◌++◌, length, cond, is_ok};
+ghost use Rattle.std.specs.Prelude.{◌≡◌, ℕ, ◌+◌, ◌<◌, ◌≤◌, List, [], ◌∷◌, ◌++◌, length, take, cond, is_ok};
 ghost use Rattle.std.specs.Result.{is_err, OnOk};
 ghost use Rattle.kernel_model.specs.World.{Blocks};
 ghost use Rattle.kernel_model.specs.Objects.{at};
 ghost use Rattle.disk_log.specs.Calls.{Knows, CallsExtend};
 
-use arrayvec::ArrayVec;
 use std::marker::Model;
 use vino_base::{Disk, Failed};
 
 /// The most calls that one log notes. A piece of a system call makes at most so many.
 pub const CALLS: usize = 256;
 
-/// Which calls of a disk failed, in order.
+/// Which calls of a disk failed, in order. What stands behind them isn't looked at, so that to forget
+/// them writes a count alone.
 #[derive(Drop)]
 pub struct DiskLog {
-    failed: ArrayVec<bool, CALLS>,
+    failed: [bool; CALLS],
+    count: usize,
 }
 
 impl Model for DiskLog {
-    ghost use Rattle.std.specs.Prelude.{List, Bool, ◌≤◌, length};
+    ghost use Rattle.std.specs.Prelude.{List, Bool, ◌≤◌, take};
 
     ghost Value = { List Bool };
 
-    ghost view = { λ l. l.failed.items };
+    ghost view = { λ l. take l.count l.failed };
+
+    ghost invariant = { λ l. l.count ≤ 256 };
 }
 
 impl DiskLog {
@@ -34,7 +37,8 @@ impl DiskLog {
         ensures { result ≡ [] }
     {
         DiskLog {
-            failed: ArrayVec::new(),
+            failed: [false; CALLS],
+            count: 0,
         }
     }
 
@@ -42,14 +46,14 @@ impl DiskLog {
     pub fn clear(&mut self)
         ensures { self.new ≡ [] }
     {
-        self.failed.clear();
+        self.count = 0;
     }
 
     /// The calls so far: whether each failed.
     pub fn calls(&self) -> &[bool]
         ensures { result.now ≡ self.now }
     {
-        self.failed.as_slice()
+        &self.failed[..self.count]
     }
 
     /// Reads block b, which the disk lends then. It is always inlined: no answer is moved then.
@@ -63,7 +67,7 @@ impl DiskLog {
         ensures calls { CallsExtend (D.seen disk.old) (D.seen disk.new) self.old self.new }
     {
         let result = disk.read_block(b);
-        note(&mut self.failed, result.is_err());
+        self.note(result.is_err());
         result
     }
 
@@ -78,17 +82,28 @@ impl DiskLog {
     {
         disk.size();
         let result = disk.write_block(b, from);
-        note(&mut self.failed, result.is_err());
+        self.note(result.is_err());
         result
+    }
+
+    /// Notes one call.
+    #[inline(always)]
+    fn note(&mut self, fails: bool)
+        requires { length self.old < CALLS }
+        ensures { self.new ≡ self.old ++ fails ∷ [] }
+    {
+        put_behind(&mut self.failed, self.count, fails);
+        self.count += 1;
     }
 }
 
-/// Notes one call.
-fn note(failed: &mut ArrayVec<bool, CALLS>, fails: bool)
-    requires { length failed.old.items < CALLS }
-    ensures { failed.new.items ≡ failed.old.items ++ fails ∷ [] }
+/// An entry behind the first ones.
+fn put_behind(failed: &mut [bool], count: usize, fails: bool)
+    requires { count < length failed.old }
+    ensures long { length failed.new ≡ length failed.old }
+    ensures value { take (count + 1) failed.new ≡ take count failed.old ++ fails ∷ [] }
 {
-    failed.push(fails);
+    failed[count] = fails;
 }
 
 #[cfg(test)]

@@ -128,9 +128,7 @@ mod tests {
 
     /// Whether block b begins with these two bytes.
     fn begins(disk: &mut MemDisk, b: u32, bytes: &[u8; 2]) -> bool {
-        b < disk.size()
-            && disk.read_block(b).is_ok()
-            && &disk.block()[..2] == bytes.as_slice()
+        b < disk.size() && disk.read_block(b).is_ok() && &disk.block()[..2] == bytes.as_slice()
     }
 
     /// Gives what another source gives, at most 40 bytes at a time.

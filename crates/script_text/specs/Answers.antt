@@ -37,3 +37,8 @@ abbrev pub SetsWithin : Result Entry ScriptFault → Type 0
 SetsWithin (Ok (Frames n)) = (2 ≤ n) × (n ≤ 64)
 SetsWithin (Ok (Patience kind n)) = kind < 8
 SetsWithin _ = ⊤
+
+-- what was said: the entry that stands where it was lent, or a refusal
+abbrev pub with_entry : {T : Type 0} → Result T ScriptFault → Entry → Result Entry ScriptFault
+with_entry (Ok _) entry = Ok entry
+with_entry (Err fault) entry = Err fault

@@ -1,13 +1,14 @@
 //! `parse_line`: what a line of a script says.
 
 ghost use Rattle.std.specs.Prelude.{◌≡◌, ℕ, ◌≤◌, ◌<◌, List, [], ◌∷◌, length, option_map, slice_index};
+ghost use Rattle.std.specs.Result.{OnErr};
 ghost use Rattle.kernel_model.specs.declared.Command.TheVariants as command_is;
 ghost use Rattle.kernel_model.specs.Bare.{call_with};
 ghost use Rattle.kernel_model.specs.Bytes.{hex_word};
 ghost use Rattle.kernel_model.specs.Script.{WRITE_DIGITS, IMAGE_DIGITS, amount_at, name_word};
 ghost use Rattle.kernel_model.specs.Script.{open_by, write_by, serve_by, stream_write_by, call_of};
 ghost use Rattle.kernel_model.specs.Script.{happens_by, loads_by, entry_of, is_blank, parsed_line};
-ghost use Rattle.script_text.specs.Answers.{Answers, SetsWithin};
+ghost use Rattle.script_text.specs.Answers.{Answers, SetsWithin, with_entry};
 
 use crate::commands::named;
 use crate::digits::name;
@@ -250,13 +251,8 @@ fn entry_said<'a>(
     }
 }
 
-/// What a line says, before or after `boot`, or why it is refused. The line stands without its
-/// newline.
-///
-/// The name of an `open` and the bytes of a `write`, a `swrite` and a `serve` go to `bytes`, which
-/// has none for other lines.
-/// No memory is taken: the bytes of an image are decoded later.
-pub fn parse_line<'a>(
+/// What a line says, before or after `boot`, or why it is refused.
+fn line_said<'a>(
     line: &'a [u8],
     booted: bool,
     bytes: &mut ArrayVec<u8, BLOCK_BYTES>,
@@ -283,5 +279,32 @@ pub fn parse_line<'a>(
         Reading::BadWord => Err(ScriptFault::BadWord),
         Reading::BadNumber => Err(ScriptFault::BadNumber),
         Reading::Said => entry_said(syntax.command, words.numbers.as_slice(), words.last, bytes),
+    }
+}
+
+/// What a line says, before or after `boot`, which is put where it is lent, so that it isn't moved;
+/// or why it is refused. The line stands without its newline.
+///
+/// The name of an `open` and the bytes of a `write`, a `swrite` and a `serve` go to `bytes`, which
+/// has none for other lines.
+/// No memory is taken: the bytes of an image are decoded later.
+pub fn parse_line<'a>(
+    line: &'a [u8],
+    booted: bool,
+    bytes: &mut ArrayVec<u8, BLOCK_BYTES>,
+    entry: &mut Entry<'a>,
+) -> Result<(), ScriptFault>
+    requires { length line.now ≤ 65536 }
+    ensures answer { Answers (with_entry result entry.new) bytes.new.items
+        (parsed_line booted line.now) }
+    ensures limits { SetsWithin (with_entry result entry.new) }
+    ensures kept { OnErr result (entry.new ≡ entry.old) }
+{
+    match line_said(line, booted, bytes) {
+        Ok(said) => {
+            *entry = said;
+            Ok(())
+        }
+        Err(fault) => Err(fault),
     }
 }

@@ -144,14 +144,15 @@ impl<B: Policy> Session<B> {
         if self.refused {
             return Ok(());
         }
-        match &parse_line(text, self.booted, &mut out.bytes) {
+        let mut entry = Entry::Blank;
+        match parse_line(text, self.booted, &mut out.bytes, &mut entry) {
             Err(fault) => {
                 self.lines += 1;
-                self.refuse(fault_code(*fault), out);
+                self.refuse(fault_code(fault), out);
             }
-            Ok(entry) => {
+            Ok(()) => {
                 self.lines += 1;
-                if let Err(lacks) = self.run_entry(alloc, keys, entry, disk, out) {
+                if let Err(lacks) = self.run_entry(alloc, keys, &entry, disk, out) {
                     // A line that wanted memory isn't counted.
                     self.lines -= 1;
                     return Err(lacks);

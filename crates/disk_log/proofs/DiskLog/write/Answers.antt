@@ -15,5 +15,5 @@ returns-clause-calls g c =
     let call = c.write_block-result in
     let after = call.ensures.after in
     call_extends (g.D.Disk.seen c.args.disk.now) (g.D.Disk.seen call.new.self) c.args.self.now
-    c.note.new.failed.items call.result (search rules) (ap (λ (x : DiskSeen). x.size) after)
+    c.note.new.self call.result (search rules) (ap (λ (x : DiskSeen). x.size) after)
     call.ensures.cause (ap (λ (x : DiskSeen). x.plan) after) call.ensures.fails

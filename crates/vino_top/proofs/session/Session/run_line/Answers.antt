@@ -27,14 +27,14 @@ returns-in-Err-clause-ok g c =
 
 pub returns-in_default-clause-ok : goal.returns-in_default-clause-ok
 returns-in_default-clause-ok g c =
-    line_entered (place c.args.keys.now (g.D.Disk.seen c.args.disk.now).size) (seen_of c.args.self.now) (seen_of c.run_entry.new.self) c.args.text.now _ (entry_seen c.in-Ok.entry c.parse_line.new.bytes.items)
+    line_entered (place c.args.keys.now (g.D.Disk.seen c.args.disk.now).size) (seen_of c.args.self.now) (seen_of c.run_entry.new.self) c.args.text.now _ (entry_seen c.parse_line.new.entry c.parse_line.new.bytes.items)
     (g.D.Disk.seen c.args.disk.now) (g.D.Disk.seen c.run_entry.new.disk)
     c.if-self.false (rw c.in-Ok.is at c.parse_line.ensures.answer) c.in_default.ensures.runs
 
 pub returns-in-Err-run_entry-clause-err : goal.returns-in-Err-run_entry-clause-err
 returns-in-Err-run_entry-clause-err g c =
     let lines : c.args.self.now.lines + 1 - 1 ≡ c.args.self.now.lines = omega arith in
-    (rw (c.in-Err-run_entry.ensures.err.0, lines) refl, wants_free (seen_of c.args.self.now) c.args.text.now (entry_seen c.in-Ok.entry c.parse_line.new.bytes.items) c.if-self.false (rw c.in-Ok.is at c.parse_line.ensures.answer) c.in-Err-run_entry.ensures.err.1)
+    (rw (c.in-Err-run_entry.ensures.err.0, lines) refl, wants_free (seen_of c.args.self.now) c.args.text.now (entry_seen c.parse_line.new.entry c.parse_line.new.bytes.items) c.if-self.false (rw c.in-Ok.is at c.parse_line.ensures.answer) c.in-Err-run_entry.ensures.err.1)
 
 pub returns-then-self-clause-ok : goal.returns-then-self-clause-ok
 returns-then-self-clause-ok g c =

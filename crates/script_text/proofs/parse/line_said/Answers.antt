@@ -9,7 +9,7 @@ use Rattle.script_text.specs.Words.{front_word}
 use Rattle.script_text.specs.declared.commands.Syntax.{Syntax}
 use Rattle.script_text.proofs.Lines.{parsed-first}
 use Rattle.script_text.proofs.Spelling.{named-size}
-use Rattle.script_text.proofs.parse.parse_line.Goals as goal
+use Rattle.script_text.proofs.parse.line_said.Goals as goal
 
 pub skip-requires : goal.skip-requires
 skip-requires c =
