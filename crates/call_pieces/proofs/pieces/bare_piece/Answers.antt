@@ -252,7 +252,8 @@ returns-in-Read-clause-done g c =
 
 pub returns-in-Write-clause-done : goal.returns-in-Write-clause-done
 returns-in-Write-clause-done g c =
-    let w = c.args.work.now in
+    rw c.clear.ensures
+    (let w = c.args.work.now in
     let s = c.args.store.now in
     let v = world_of_store s in
     let o = objects_of s in
@@ -265,7 +266,7 @@ returns-in-Write-clause-done g c =
     (o.things.file w.caller x.fd) x.i x.off (length bytes)) v o blocks w.caller x.off bytes
     c.args.answer io) before after None c.write.result (bare_stage_of w))
     c.as_slice-bytes.ensures.value
-    (serves_last _ before after c.write.result (bare_stage_of w) c.write.ensures))
+    (serves_last _ before after c.write.result (bare_stage_of w) c.write.ensures)))
 
 pub returns-in-Sync-clause-done : goal.returns-in-Sync-clause-done
 returns-in-Sync-clause-done g c =

@@ -44,7 +44,8 @@ returns-in-Err-clause-done g c =
 
 pub returns-in_default-clause-done : goal.returns-in_default-clause-done
 returns-in_default-clause-done g c =
-    let s = c.args.store.now in
+    rw c.requires.nothing
+    (let s = c.args.store.now in
     let r = c.args.r in
     let v = world_of_store s in
     let o = objects_of s in
@@ -68,7 +69,7 @@ returns-in_default-clause-done g c =
       some = search rules;
       keeps = search rules;
       calls = failed.calls;
-    }
+    })
 
 pub returns-clause-done : goal.returns-clause-done
 returns-clause-done g c =

@@ -47,7 +47,8 @@ returns-in-1-clause-done g c =
 
 pub returns-in_default-piece-clause-done : goal.returns-in_default-piece-clause-done
 returns-in_default-piece-clause-done g c =
-    let s = c.args.store.now in
+    rw c.requires.nothing
+    (let s = c.args.store.now in
     let r = c.args.r in
     let before = moment s (g.D.Disk.seen c.args.disk.now) c.args.log.now in
     let after = moment c.later.new.store (g.D.Disk.seen c.later.new.disk) c.later.new.log in
@@ -59,4 +60,4 @@ returns-in_default-piece-clause-done g c =
     c.later.result (read_stage r 2)
     (λ blocks w. read_later c.args.piece.now (world_of_store s) (objects_of s) blocks r.p r.fd r.i
     r.off r.len _ c.in-Some.opened r.answer w third (sym c.file.ensures.value ∙ c.in-Some.is))
-    c.later.ensures.done)
+    c.later.ensures.done))

@@ -68,7 +68,7 @@ returns-in-StreamWrite-2-clause-does g c =
     let io = c.write.new.log ++ rest in
     came_as _ _ _ _ _ _ _ (length c.write.new.log)
     (second_write w x.fd x.i x.off (world_of_store s) (objects_of s) blocks s.ram c.args.answer io
-    x.is c.if-work-eq0-2.false) refl
+    x.is c.if-work-eq0-2.false) c.clear.ensures
     (subst (λ (bytes : List ℕ). PieceMatches
     (write_piece (file_block (world_of_store s) ((objects_of s).things.file w.caller x.fd) x.i x.off
     (length bytes)) (world_of_store s) (objects_of s) blocks w.caller x.off bytes c.args.answer io)
