@@ -1,5 +1,5 @@
 -- The crate `hex` writes digits as the definitions do.
-use Rattle.std.proofs.Common.{◌≡◌, ℕ, ◌%◌, ◌/◌, List, [], ◌∷◌, refl, ap}
+use Rattle.std.proofs.Common.{◌≡◌, ℕ, ◌*◌, ◌%◌, ◌/◌, List, [], ◌∷◌, length, refl, ap, arith}
 use Rattle.std.specs.Prelude.{codes}
 use Rattle.hex.specs.Hex.{encode_with}
 use Rattle.kernel_model.specs.Bytes.{hex_digit, hex_text}
@@ -9,3 +9,8 @@ pub encode_with-lower : (bytes : List ℕ) → encode_with (codes "0123456789abc
 unfolding encode_with
 encode_with-lower [] = refl
 encode_with-lower (b ∷ bytes) = ap (λ text. hex_digit (b / 16) ∷ hex_digit (b % 16) ∷ text) (encode_with-lower bytes)
+
+-- two digits a byte
+pub length-hex_text : (bytes : List ℕ) → length (hex_text bytes) ≡ 2 * length bytes
+length-hex_text [] = refl
+length-hex_text (b ∷ bytes) = omega (arith, length-hex_text bytes)

@@ -1,163 +1,149 @@
-//! Bytes, numbers and hex digits are put behind a text. Each function says how much room it needs.
+//! Numbers and data are put behind the first cells, as bytes are. Each function says how much room
+//! it needs.
 
 ghost use Rattle.std.specs.Prelude.{◌≡◌, ◌<◌, ◌≤◌, ◌+◌, ◌*◌, ◌∷◌, ◌++◌, length, decimal, take, flat_map};
-ghost use Rattle.kernel_model.specs.Bytes.{hex_text};
 ghost use Rattle.kernel_model.specs.Text.{spaced, after_colon, all_spaced, data_text};
 
-use crate::buffer::Buffer;
-
-/// Bytes.
-pub(crate) fn add(out: &mut Buffer, bytes: &[u8])
-    requires { length out.old + length bytes.now ≤ 2048 }
-    ensures text { out.new ≡ out.old ++ bytes.now }
-    ensures len { length out.new ≡ length out.old + length bytes.now }
-{
-    out.add(bytes);
-}
+use crate::cells::{Cells, add, hex_digits, number};
 
 /// A number of at most 3 digits.
-pub(crate) fn number_u8(out: &mut Buffer, n: u8)
-    requires { length out.old + 3 ≤ 2048 }
-    ensures text { out.new ≡ out.old ++ decimal n }
-    ensures len { length out.new ≤ length out.old + 3 }
+pub(crate) fn number_u8(out: &mut Cells, at: usize, n: u8) -> usize
+    requires { at + 3 ≤ 2048 }
+    ensures text { take result out.new ≡ take at out.old ++ decimal n }
+    ensures end { result ≤ at + 3 }
 {
-    out.add_number(u64::from(n));
+    number(out, at, u64::from(n))
 }
 
 /// A number of at most 10 digits.
-pub(crate) fn number_u32(out: &mut Buffer, n: u32)
-    requires { length out.old + 10 ≤ 2048 }
-    ensures text { out.new ≡ out.old ++ decimal n }
-    ensures len { length out.new ≤ length out.old + 10 }
+pub(crate) fn number_u32(out: &mut Cells, at: usize, n: u32) -> usize
+    requires { at + 10 ≤ 2048 }
+    ensures text { take result out.new ≡ take at out.old ++ decimal n }
+    ensures end { result ≤ at + 10 }
 {
-    out.add_number(u64::from(n));
+    number(out, at, u64::from(n))
 }
 
 /// A number of at most 20 digits.
-fn number_u64(out: &mut Buffer, n: u64)
-    requires { length out.old + 20 ≤ 2048 }
-    ensures text { out.new ≡ out.old ++ decimal n }
-    ensures len { length out.new ≤ length out.old + 20 }
+fn number_u64(out: &mut Cells, at: usize, n: u64) -> usize
+    requires { at + 20 ≤ 2048 }
+    ensures text { take result out.new ≡ take at out.old ++ decimal n }
+    ensures end { result ≤ at + 20 }
 {
-    out.add_number(n);
+    number(out, at, n)
 }
 
 /// A byte and a digit.
-fn digit(out: &mut Buffer, before: u8, n: u8)
-    requires room { length out.old + 2 ≤ 2048 }
+fn digit(out: &mut Cells, at: usize, before: u8, n: u8) -> usize
+    requires room { at + 2 ≤ 2048 }
     requires digit { n < 10 }
-    ensures text { out.new ≡ out.old ++ before ∷ decimal n }
-    ensures len { length out.new ≤ length out.old + 2 }
+    ensures text { take result out.new ≡ take at out.old ++ before ∷ decimal n }
+    ensures end { result ≤ at + 2 }
 {
-    add(out, [before, b'0' + n].as_slice());
+    add(out, at, [before, b'0' + n].as_slice())
 }
 
 /// A space and a number.
-pub(crate) fn spaced_u8(out: &mut Buffer, n: u8)
-    requires { length out.old + 4 ≤ 2048 }
-    ensures text { out.new ≡ out.old ++ spaced n }
-    ensures len { length out.new ≤ length out.old + 4 }
+pub(crate) fn spaced_u8(out: &mut Cells, at: usize, n: u8) -> usize
+    requires { at + 4 ≤ 2048 }
+    ensures text { take result out.new ≡ take at out.old ++ spaced n }
+    ensures end { result ≤ at + 4 }
 {
     if n < 10 {
-        return digit(out, b' ', n);
+        return digit(out, at, b' ', n);
     }
-    add(out, b" ".as_slice());
-    number_u8(out, n);
+    let at = add(out, at, b" ".as_slice());
+    number_u8(out, at, n)
 }
 
 /// A space and a number.
-pub(crate) fn spaced_u32(out: &mut Buffer, n: u32)
-    requires { length out.old + 11 ≤ 2048 }
-    ensures text { out.new ≡ out.old ++ spaced n }
-    ensures len { length out.new ≤ length out.old + 11 }
+pub(crate) fn spaced_u32(out: &mut Cells, at: usize, n: u32) -> usize
+    requires { at + 11 ≤ 2048 }
+    ensures text { take result out.new ≡ take at out.old ++ spaced n }
+    ensures end { result ≤ at + 11 }
 {
     if n < 10 {
-        return digit(out, b' ', n as u8);
+        return digit(out, at, b' ', n as u8);
     }
-    add(out, b" ".as_slice());
-    number_u32(out, n);
+    let at = add(out, at, b" ".as_slice());
+    number_u32(out, at, n)
 }
 
 /// A space and a number.
-pub(crate) fn spaced_u64(out: &mut Buffer, n: u64)
-    requires { length out.old + 21 ≤ 2048 }
-    ensures text { out.new ≡ out.old ++ spaced n }
-    ensures len { length out.new ≤ length out.old + 21 }
+pub(crate) fn spaced_u64(out: &mut Cells, at: usize, n: u64) -> usize
+    requires { at + 21 ≤ 2048 }
+    ensures text { take result out.new ≡ take at out.old ++ spaced n }
+    ensures end { result ≤ at + 21 }
 {
     if n < 10 {
-        return digit(out, b' ', n as u8);
+        return digit(out, at, b' ', n as u8);
     }
-    add(out, b" ".as_slice());
-    number_u64(out, n);
+    let at = add(out, at, b" ".as_slice());
+    number_u64(out, at, n)
 }
 
 /// A colon and a number.
-pub(crate) fn colon_u8(out: &mut Buffer, n: u8)
-    requires { length out.old + 4 ≤ 2048 }
-    ensures text { out.new ≡ out.old ++ after_colon n }
-    ensures len { length out.new ≤ length out.old + 4 }
+pub(crate) fn colon_u8(out: &mut Cells, at: usize, n: u8) -> usize
+    requires { at + 4 ≤ 2048 }
+    ensures text { take result out.new ≡ take at out.old ++ after_colon n }
+    ensures end { result ≤ at + 4 }
 {
     if n < 10 {
-        return digit(out, b':', n);
+        return digit(out, at, b':', n);
     }
-    add(out, b":".as_slice());
-    number_u8(out, n);
+    let at = add(out, at, b":".as_slice());
+    number_u8(out, at, n)
 }
 
 /// A colon and a number.
-pub(crate) fn colon_u32(out: &mut Buffer, n: u32)
-    requires { length out.old + 11 ≤ 2048 }
-    ensures text { out.new ≡ out.old ++ after_colon n }
-    ensures len { length out.new ≤ length out.old + 11 }
+pub(crate) fn colon_u32(out: &mut Cells, at: usize, n: u32) -> usize
+    requires { at + 11 ≤ 2048 }
+    ensures text { take result out.new ≡ take at out.old ++ after_colon n }
+    ensures end { result ≤ at + 11 }
 {
     if n < 10 {
-        return digit(out, b':', n as u8);
+        return digit(out, at, b':', n as u8);
     }
-    add(out, b":".as_slice());
-    number_u32(out, n);
+    let at = add(out, at, b":".as_slice());
+    number_u32(out, at, n)
 }
 
 /// Numbers, each after a space.
-pub(crate) fn all_u32(out: &mut Buffer, ns: &[u32])
-    requires { length out.old + 11 * length ns.now ≤ 2048 }
-    ensures text { out.new ≡ out.old ++ all_spaced ns.now }
-    ensures len { length out.new ≤ length out.old + 11 * length ns.now }
+pub(crate) fn all_u32(out: &mut Cells, at: usize, ns: &[u32]) -> usize
+    requires { at + 11 * length ns.now ≤ 2048 }
+    ensures text { take result out.new ≡ take at out.old ++ all_spaced ns.now }
+    ensures end { result ≤ at + 11 * length ns.now }
 {
+    let mut at = at;
     for n in ns {
-        spaced_u32(out, *n);
+        at = spaced_u32(out, at, *n);
     }
+    at
 }
 
 /// Numbers, each after a space.
-pub(crate) fn all_u64(out: &mut Buffer, ns: &[u64])
-    requires { length out.old + 21 * length ns.now ≤ 2048 }
-    ensures text { out.new ≡ out.old ++ all_spaced ns.now }
-    ensures len { length out.new ≤ length out.old + 21 * length ns.now }
+pub(crate) fn all_u64(out: &mut Cells, at: usize, ns: &[u64]) -> usize
+    requires { at + 21 * length ns.now ≤ 2048 }
+    ensures text { take result out.new ≡ take at out.old ++ all_spaced ns.now }
+    ensures end { result ≤ at + 21 * length ns.now }
 {
+    let mut at = at;
     for n in ns {
-        spaced_u64(out, *n);
+        at = spaced_u64(out, at, *n);
     }
-}
-
-/// Bytes as hex digits of lower case.
-pub(crate) fn hex_digits(out: &mut Buffer, bytes: &[u8])
-    requires { length out.old + 2 * length bytes.now ≤ 2048 }
-    ensures text { out.new ≡ out.old ++ hex_text bytes.now }
-    ensures len { length out.new ≡ length out.old + 2 * length bytes.now }
-{
-    out.add_hex(bytes);
+    at
 }
 
 /// A space and bytes as hex digits, or nothing where there are no bytes.
-pub(crate) fn data(out: &mut Buffer, bytes: &[u8])
-    requires room { length out.old ≤ 1000 }
+pub(crate) fn data(out: &mut Cells, at: usize, bytes: &[u8]) -> usize
+    requires room { at ≤ 1000 }
     requires block { length bytes.now ≤ 512 }
-    ensures text { out.new ≡ out.old ++ data_text bytes.now }
-    ensures len { length out.new ≤ length out.old + 1025 }
+    ensures text { take result out.new ≡ take at out.old ++ data_text bytes.now }
+    ensures end { result ≤ at + 1025 }
 {
     if bytes.is_empty() {
-        return;
+        return at;
     }
-    add(out, b" ".as_slice());
-    hex_digits(out, bytes);
+    let at = add(out, at, b" ".as_slice());
+    hex_digits(out, at, bytes)
 }

@@ -3,42 +3,40 @@
 ghost use Rattle.std.specs.Prelude.{◌≡◌, ◌≤◌, ◌++◌, [], ◌∷◌, length, codes, decimal};
 ghost use Rattle.kernel_model.specs.Text.{line, spaced, boot_text, left_text, usage_text};
 
-use crate::append::{add, number_u8, number_u32, spaced_u8, spaced_u32};
+use crate::append::{number_u8, number_u32, spaced_u8, spaced_u32};
+use crate::cells::add;
 use crate::text::Text;
 
 /// The line of `boot`: the frames of the cache, the blocks of the disk, the usable files.
 pub fn print_boot(frames: u8, blocks: u32, files: u32, out: &mut Text)
     ensures { out.new ≡ line (boot_text frames blocks files) }
 {
-    out.bytes.clear();
-    add(&mut out.bytes, b"0 boot".as_slice());
-    spaced_u8(&mut out.bytes, frames);
-    spaced_u32(&mut out.bytes, blocks);
-    spaced_u32(&mut out.bytes, files);
-    add(&mut out.bytes, b"\n".as_slice());
+    let at = add(&mut out.cells, 0, b"0 boot".as_slice());
+    let at = spaced_u8(&mut out.cells, at, frames);
+    let at = spaced_u32(&mut out.cells, at, blocks);
+    let at = spaced_u32(&mut out.cells, at, files);
+    out.count = add(&mut out.cells, at, b"\n".as_slice());
 }
 
 /// The line of a refused line: its number, from 1, and its S code.
 pub fn print_fault(n: u32, code: u8, out: &mut Text)
     ensures { out.new ≡ line (codes "script" ++ spaced n ++ codes " S" ++ decimal code) }
 {
-    out.bytes.clear();
-    add(&mut out.bytes, b"script".as_slice());
-    spaced_u32(&mut out.bytes, n);
-    add(&mut out.bytes, b" S".as_slice());
-    number_u8(&mut out.bytes, code);
-    add(&mut out.bytes, b"\n".as_slice());
+    let at = add(&mut out.cells, 0, b"script".as_slice());
+    let at = spaced_u32(&mut out.cells, at, n);
+    let at = add(&mut out.cells, at, b" S".as_slice());
+    let at = number_u8(&mut out.cells, at, code);
+    out.count = add(&mut out.cells, at, b"\n".as_slice());
 }
 
 /// The line of a call that is left in flight: its process and its number.
 pub fn print_left(p: u8, number: u32, out: &mut Text)
     ensures { out.new ≡ line (left_text p number) }
 {
-    out.bytes.clear();
-    add(&mut out.bytes, b"left".as_slice());
-    spaced_u8(&mut out.bytes, p);
-    spaced_u32(&mut out.bytes, number);
-    add(&mut out.bytes, b"\n".as_slice());
+    let at = add(&mut out.cells, 0, b"left".as_slice());
+    let at = spaced_u8(&mut out.cells, at, p);
+    let at = spaced_u32(&mut out.cells, at, number);
+    out.count = add(&mut out.cells, at, b"\n".as_slice());
 }
 
 /// The line of event n for an image that isn't loaded: its L code.
@@ -46,11 +44,10 @@ pub fn print_unloaded(n: u32, code: &[u8], out: &mut Text)
     requires { length code.now ≤ 3 }
     ensures { out.new ≡ line (decimal n ++ 32 ∷ code.now) }
 {
-    out.bytes.clear();
-    number_u32(&mut out.bytes, n);
-    add(&mut out.bytes, b" ".as_slice());
-    add(&mut out.bytes, code);
-    add(&mut out.bytes, b"\n".as_slice());
+    let at = number_u32(&mut out.cells, 0, n);
+    let at = add(&mut out.cells, at, b" ".as_slice());
+    let at = add(&mut out.cells, at, code);
+    out.count = add(&mut out.cells, at, b"\n".as_slice());
 }
 
 /// The same with the place of the instruction that is refused.
@@ -58,12 +55,11 @@ pub fn print_unloaded_at(n: u32, code: &[u8], pc: u32, out: &mut Text)
     requires { length code.now ≤ 3 }
     ensures { out.new ≡ line (decimal n ++ 32 ∷ (code.now ++ spaced pc)) }
 {
-    out.bytes.clear();
-    number_u32(&mut out.bytes, n);
-    add(&mut out.bytes, b" ".as_slice());
-    add(&mut out.bytes, code);
-    spaced_u32(&mut out.bytes, pc);
-    add(&mut out.bytes, b"\n".as_slice());
+    let at = number_u32(&mut out.cells, 0, n);
+    let at = add(&mut out.cells, at, b" ".as_slice());
+    let at = add(&mut out.cells, at, code);
+    let at = spaced_u32(&mut out.cells, at, pc);
+    out.count = add(&mut out.cells, at, b"\n".as_slice());
 }
 
 /// The line of event n for an image that is loaded: how many instructions and data bytes it has.
@@ -71,12 +67,11 @@ pub fn print_loaded(n: u32, instructions: u32, bytes: u32, out: &mut Text)
     ensures { out.new ≡ line (decimal n
         ++ 32 ∷ (codes "ok" ++ spaced instructions ++ spaced bytes)) }
 {
-    out.bytes.clear();
-    number_u32(&mut out.bytes, n);
-    add(&mut out.bytes, b" ok".as_slice());
-    spaced_u32(&mut out.bytes, instructions);
-    spaced_u32(&mut out.bytes, bytes);
-    add(&mut out.bytes, b"\n".as_slice());
+    let at = number_u32(&mut out.cells, 0, n);
+    let at = add(&mut out.cells, at, b" ok".as_slice());
+    let at = spaced_u32(&mut out.cells, at, instructions);
+    let at = spaced_u32(&mut out.cells, at, bytes);
+    out.count = add(&mut out.cells, at, b"\n".as_slice());
 }
 
 /// What is written where the words of the command line aren't in the grammar.

@@ -4,7 +4,7 @@
 #![tactic(auto)]
 
 mod append;
-mod buffer;
+mod cells;
 mod digits;
 mod ends;
 mod print;

@@ -1,224 +1,224 @@
 //! `print_note`: the line of a note.
 
-ghost use Rattle.std.specs.Prelude.{◌≡◌, ◌≤◌, ◌<◌, ◌+◌, [], ◌++◌, length};
+ghost use Rattle.std.specs.Prelude.{◌≡◌, ◌≤◌, ◌<◌, ◌+◌, [], ◌++◌, length, take};
 ghost use Rattle.kernel_model.specs.Bare.{note_with};
 ghost use Rattle.kernel_model.specs.Text.{spaced, pair_text, single_text, object_text, reply_text};
 ghost use Rattle.kernel_model.specs.Text.{refusal_text, cause_text, note_text, line};
 
-use crate::append::{add, data, number_u8, number_u32, spaced_u8, spaced_u32, spaced_u64};
-use crate::buffer::Buffer;
+use crate::append::{data, number_u8, number_u32, spaced_u8, spaced_u32, spaced_u64};
+use crate::cells::{Cells, add};
 use crate::text::Text;
 use kernel_model::{BareNote, Cause, Object, Refusal, Reply};
 
 /// Two numbers in parentheses.
-fn pair(out: &mut Buffer, a: u8, b: u8)
-    requires { length out.old + 9 ≤ 2048 }
-    ensures text { out.new ≡ out.old ++ pair_text a b }
-    ensures len { length out.new ≤ length out.old + 9 }
+fn pair(out: &mut Cells, at: usize, a: u8, b: u8) -> usize
+    requires { at + 9 ≤ 2048 }
+    ensures text { take result out.new ≡ take at out.old ++ pair_text a b }
+    ensures end { result ≤ at + 9 }
 {
-    add(out, b"(".as_slice());
-    number_u8(out, a);
-    add(out, b",".as_slice());
-    number_u8(out, b);
-    add(out, b")".as_slice());
+    let at = add(out, at, b"(".as_slice());
+    let at = number_u8(out, at, a);
+    let at = add(out, at, b",".as_slice());
+    let at = number_u8(out, at, b);
+    add(out, at, b")".as_slice())
 }
 
 /// A number in parentheses.
-fn single(out: &mut Buffer, a: u8)
-    requires { length out.old + 5 ≤ 2048 }
-    ensures text { out.new ≡ out.old ++ single_text a }
-    ensures len { length out.new ≤ length out.old + 5 }
+fn single(out: &mut Cells, at: usize, a: u8) -> usize
+    requires { at + 5 ≤ 2048 }
+    ensures text { take result out.new ≡ take at out.old ++ single_text a }
+    ensures end { result ≤ at + 5 }
 {
-    add(out, b"(".as_slice());
-    number_u8(out, a);
-    add(out, b")".as_slice());
+    let at = add(out, at, b"(".as_slice());
+    let at = number_u8(out, at, a);
+    add(out, at, b")".as_slice())
 }
 
 /// The name of an object.
-pub(crate) fn object(out: &mut Buffer, o: Object)
-    requires { length out.old + 14 ≤ 2048 }
-    ensures text { out.new ≡ out.old ++ object_text o }
-    ensures len { length out.new ≤ length out.old + 14 }
+pub(crate) fn object(out: &mut Cells, at: usize, o: Object) -> usize
+    requires { at + 14 ≤ 2048 }
+    ensures text { take result out.new ≡ take at out.old ++ object_text o }
+    ensures end { result ≤ at + 14 }
 {
     match o {
         Object::Graft(q, pt) => {
-            add(out, b"Graft".as_slice());
-            pair(out, q, pt)
+            let at = add(out, at, b"Graft".as_slice());
+            pair(out, at, q, pt)
         }
         Object::Acct(q) => {
-            add(out, b"Acct".as_slice());
-            single(out, q)
+            let at = add(out, at, b"Acct".as_slice());
+            single(out, at, q)
         }
         Object::Cell(q, k) => {
-            add(out, b"Cell".as_slice());
-            pair(out, q, k)
+            let at = add(out, at, b"Cell".as_slice());
+            pair(out, at, q, k)
         }
         Object::OpenFile(q, fd) => {
-            add(out, b"Open".as_slice());
-            pair(out, q, fd)
+            let at = add(out, at, b"Open".as_slice());
+            pair(out, at, q, fd)
         }
-        Object::Queue => add(out, b"Queue".as_slice()),
-        Object::Cache => add(out, b"Cache".as_slice()),
+        Object::Queue => add(out, at, b"Queue".as_slice()),
+        Object::Cache => add(out, at, b"Cache".as_slice()),
         Object::Lock(u) => {
-            add(out, b"Lock".as_slice());
-            single(out, u)
+            let at = add(out, at, b"Lock".as_slice());
+            single(out, at, u)
         }
         Object::Pol(kind) => {
-            add(out, b"Pol".as_slice());
-            single(out, kind)
+            let at = add(out, at, b"Pol".as_slice());
+            single(out, at, kind)
         }
     }
 }
 
 /// What a reply adds to `ok`.
-fn reply(out: &mut Buffer, r: Reply)
-    requires { length out.old + 22 ≤ 2048 }
-    ensures text { out.new ≡ out.old ++ reply_text r }
-    ensures len { length out.new ≤ length out.old + 22 }
+fn reply(out: &mut Cells, at: usize, r: Reply) -> usize
+    requires { at + 22 ≤ 2048 }
+    ensures text { take result out.new ≡ take at out.old ++ reply_text r }
+    ensures end { result ≤ at + 22 }
 {
     match r {
-        Reply::Plain => {}
-        Reply::One(a) => spaced_u32(out, a),
+        Reply::Plain => at,
+        Reply::One(a) => spaced_u32(out, at, a),
         Reply::Two(a, b) => {
-            spaced_u32(out, a);
-            spaced_u32(out, b)
+            let at = spaced_u32(out, at, a);
+            spaced_u32(out, at, b)
         }
     }
 }
 
 /// A code, an object and a process.
-fn object_after(out: &mut Buffer, code: &[u8], o: Object, p: u8)
-    requires room { length out.old + 22 ≤ 2048 }
+fn object_after(out: &mut Cells, at: usize, code: &[u8], o: Object, p: u8) -> usize
+    requires room { at + 22 ≤ 2048 }
     requires short { length code.now ≤ 4 }
-    ensures text { out.new ≡ out.old ++ (code.now ++ object_text o ++ spaced p) }
-    ensures len { length out.new ≤ length out.old + 22 }
+    ensures text { take result out.new ≡ take at out.old ++ (code.now ++ object_text o ++ spaced p) }
+    ensures end { result ≤ at + 22 }
 {
-    add(out, code);
-    object(out, o);
-    spaced_u8(out, p);
+    let at = add(out, at, code);
+    let at = object(out, at, o);
+    spaced_u8(out, at, p)
 }
 
 /// A code and a number.
-fn number_after(out: &mut Buffer, code: &[u8], n: u32)
-    requires room { length out.old + 15 ≤ 2048 }
+fn number_after(out: &mut Cells, at: usize, code: &[u8], n: u32) -> usize
+    requires room { at + 15 ≤ 2048 }
     requires short { length code.now ≤ 4 }
-    ensures text { out.new ≡ out.old ++ (code.now ++ spaced n) }
-    ensures len { length out.new ≤ length out.old + 15 }
+    ensures text { take result out.new ≡ take at out.old ++ (code.now ++ spaced n) }
+    ensures end { result ≤ at + 15 }
 {
-    add(out, code);
-    spaced_u32(out, n);
+    let at = add(out, at, code);
+    spaced_u32(out, at, n)
 }
 
 /// The code of a refusal, and what it adds.
-fn refusal(out: &mut Buffer, r: Refusal)
-    requires { length out.old + 24 ≤ 2048 }
-    ensures text { out.new ≡ out.old ++ refusal_text r }
-    ensures len { length out.new ≤ length out.old + 24 }
+fn refusal(out: &mut Cells, at: usize, r: Refusal) -> usize
+    requires { at + 24 ≤ 2048 }
+    ensures text { take result out.new ≡ take at out.old ++ refusal_text r }
+    ensures end { result ≤ at + 24 }
 {
     match r {
-        Refusal::NoProcess => add(out, b"E1".as_slice()),
-        Refusal::Busy(m) => number_after(out, b"E2".as_slice(), m),
-        Refusal::Denied => add(out, b"E3".as_slice()),
-        Refusal::BadPoint => add(out, b"E4".as_slice()),
-        Refusal::BadFd => add(out, b"E5".as_slice()),
-        Refusal::NoFile => add(out, b"E6".as_slice()),
-        Refusal::NoFd => add(out, b"E7".as_slice()),
-        Refusal::BadIndex => add(out, b"E8".as_slice()),
-        Refusal::NoImage => add(out, b"E9".as_slice()),
-        Refusal::Taken => add(out, b"E10".as_slice()),
-        Refusal::NoGraft => add(out, b"E11".as_slice()),
+        Refusal::NoProcess => add(out, at, b"E1".as_slice()),
+        Refusal::Busy(m) => number_after(out, at, b"E2".as_slice(), m),
+        Refusal::Denied => add(out, at, b"E3".as_slice()),
+        Refusal::BadPoint => add(out, at, b"E4".as_slice()),
+        Refusal::BadFd => add(out, at, b"E5".as_slice()),
+        Refusal::NoFile => add(out, at, b"E6".as_slice()),
+        Refusal::NoFd => add(out, at, b"E7".as_slice()),
+        Refusal::BadIndex => add(out, at, b"E8".as_slice()),
+        Refusal::NoImage => add(out, at, b"E9".as_slice()),
+        Refusal::Taken => add(out, at, b"E10".as_slice()),
+        Refusal::NoGraft => add(out, at, b"E11".as_slice()),
         Refusal::Short(has) => {
-            add(out, b"E12".as_slice());
-            spaced_u64(out, has)
+            let at = add(out, at, b"E12".as_slice());
+            spaced_u64(out, at, has)
         }
-        Refusal::Full => add(out, b"E13".as_slice()),
-        Refusal::Held => add(out, b"E14".as_slice()),
-        Refusal::NotHeld => add(out, b"E15".as_slice()),
-        Refusal::DiskFault => add(out, b"E16".as_slice()),
-        Refusal::TimedOut(o, holder) => object_after(out, b"E17 ".as_slice(), o, holder),
-        Refusal::PortFull => add(out, b"E18".as_slice()),
+        Refusal::Full => add(out, at, b"E13".as_slice()),
+        Refusal::Held => add(out, at, b"E14".as_slice()),
+        Refusal::NotHeld => add(out, at, b"E15".as_slice()),
+        Refusal::DiskFault => add(out, at, b"E16".as_slice()),
+        Refusal::TimedOut(o, holder) => object_after(out, at, b"E17 ".as_slice(), o, holder),
+        Refusal::PortFull => add(out, at, b"E18".as_slice()),
     }
 }
 
 /// The code of a cause, and what it adds.
-fn cause(out: &mut Buffer, c: Cause)
-    requires { length out.old + 26 ≤ 2048 }
-    ensures text { out.new ≡ out.old ++ cause_text c }
-    ensures len { length out.new ≤ length out.old + 26 }
+fn cause(out: &mut Cells, at: usize, c: Cause) -> usize
+    requires { at + 26 ≤ 2048 }
+    ensures text { take result out.new ≡ take at out.old ++ cause_text c }
+    ensures end { result ≤ at + 26 }
 {
     match c {
-        Cause::DivideByZero => add(out, b"C1".as_slice()),
-        Cause::Trap(code) => number_after(out, b"C2".as_slice(), code),
-        Cause::NotCallable(id) => number_after(out, b"C3".as_slice(), id),
-        Cause::BadArgument(id) => number_after(out, b"C4".as_slice(), id),
-        Cause::NotYours(id) => number_after(out, b"C5".as_slice(), id),
-        Cause::NotAllowed(id) => number_after(out, b"C6".as_slice(), id),
-        Cause::TooDeep => add(out, b"C7".as_slice()),
-        Cause::Reentered => add(out, b"C8".as_slice()),
-        Cause::SpentSteps => add(out, b"C9".as_slice()),
-        Cause::SpentRecords => add(out, b"C10".as_slice()),
-        Cause::SpentLocks => add(out, b"C11".as_slice()),
+        Cause::DivideByZero => add(out, at, b"C1".as_slice()),
+        Cause::Trap(code) => number_after(out, at, b"C2".as_slice(), code),
+        Cause::NotCallable(id) => number_after(out, at, b"C3".as_slice(), id),
+        Cause::BadArgument(id) => number_after(out, at, b"C4".as_slice(), id),
+        Cause::NotYours(id) => number_after(out, at, b"C5".as_slice(), id),
+        Cause::NotAllowed(id) => number_after(out, at, b"C6".as_slice(), id),
+        Cause::TooDeep => add(out, at, b"C7".as_slice()),
+        Cause::Reentered => add(out, at, b"C8".as_slice()),
+        Cause::SpentSteps => add(out, at, b"C9".as_slice()),
+        Cause::SpentRecords => add(out, at, b"C10".as_slice()),
+        Cause::SpentLocks => add(out, at, b"C11".as_slice()),
         Cause::RefusedAnswer(r0, r1) => {
-            number_after(out, b"C12".as_slice(), r0);
-            spaced_u32(out, r1)
+            let at = number_after(out, at, b"C12".as_slice(), r0);
+            spaced_u32(out, at, r1)
         }
-        Cause::TimeOut(o, other) => object_after(out, b"C13 ".as_slice(), o, other),
+        Cause::TimeOut(o, other) => object_after(out, at, b"C13 ".as_slice(), o, other),
     }
 }
 
 /// The text of a note, without its newline.
-fn note_bytes(note: &BareNote, bytes: &[u8], out: &mut Buffer)
-    requires room { length out.old ≤ 960 }
+fn note_bytes(note: &BareNote, bytes: &[u8], out: &mut Cells, at: usize) -> usize
+    requires room { at ≤ 960 }
     requires block { length bytes.now ≤ 512 }
-    ensures text { out.new ≡ out.old ++ note_text (note_with note.now bytes.now) }
-    ensures len { length out.new < 2048 }
+    ensures text { take result out.new ≡ take at out.old ++ note_text (note_with note.now bytes.now) }
+    ensures end { result < 2048 }
 {
     match *note {
         BareNote::Ticked(n, clock) => {
-            number_u32(out, n);
-            add(out, b" tick".as_slice());
-            spaced_u32(out, clock)
+            let at = number_u32(out, at, n);
+            let at = add(out, at, b" tick".as_slice());
+            spaced_u32(out, at, clock)
         }
         BareNote::Ended(m, r) => {
-            number_u32(out, m);
-            add(out, b" ok".as_slice());
-            reply(out, r)
+            let at = number_u32(out, at, m);
+            let at = add(out, at, b" ok".as_slice());
+            reply(out, at, r)
         }
         BareNote::Refused(m, r) => {
-            number_u32(out, m);
-            add(out, b" ".as_slice());
-            refusal(out, r)
+            let at = number_u32(out, at, m);
+            let at = add(out, at, b" ".as_slice());
+            refusal(out, at, r)
         }
         BareNote::Gave(m, _) => {
-            number_u32(out, m);
-            add(out, b" data".as_slice());
-            data(out, bytes)
+            let at = number_u32(out, at, m);
+            let at = add(out, at, b" data".as_slice());
+            data(out, at, bytes)
         }
         BareNote::Dropped(m, q, pt, c) => {
-            number_u32(out, m);
-            add(out, b" drop".as_slice());
-            spaced_u8(out, q);
-            spaced_u8(out, pt);
-            add(out, b" ".as_slice());
-            cause(out, c)
+            let at = number_u32(out, at, m);
+            let at = add(out, at, b" drop".as_slice());
+            let at = spaced_u8(out, at, q);
+            let at = spaced_u8(out, at, pt);
+            let at = add(out, at, b" ".as_slice());
+            cause(out, at, c)
         }
         BareNote::Ran(n, taken) => {
-            number_u32(out, n);
-            add(out, b" ran".as_slice());
-            spaced_u32(out, taken)
+            let at = number_u32(out, at, n);
+            let at = add(out, at, b" ran".as_slice());
+            spaced_u32(out, at, taken)
         }
         BareNote::Waits(m, o, holder) => {
-            number_u32(out, m);
-            add(out, b" waits ".as_slice());
-            object(out, o);
-            spaced_u8(out, holder)
+            let at = number_u32(out, at, m);
+            let at = add(out, at, b" waits ".as_slice());
+            let at = object(out, at, o);
+            spaced_u8(out, at, holder)
         }
         BareNote::InGraft(m, q, pt, depth) => {
-            number_u32(out, m);
-            add(out, b" graft".as_slice());
-            spaced_u8(out, q);
-            spaced_u8(out, pt);
-            spaced_u8(out, depth)
+            let at = number_u32(out, at, m);
+            let at = add(out, at, b" graft".as_slice());
+            let at = spaced_u8(out, at, q);
+            let at = spaced_u8(out, at, pt);
+            spaced_u8(out, at, depth)
         }
     }
 }
@@ -230,8 +230,8 @@ pub fn append_note(note: &BareNote, bytes: &[u8], out: &mut Text)
     requires block { length bytes.now ≤ 512 }
     ensures { out.new ≡ out.old ++ line (note_text (note_with note.now bytes.now)) }
 {
-    note_bytes(note, bytes, &mut out.bytes);
-    add(&mut out.bytes, b"\n".as_slice());
+    let at = note_bytes(note, bytes, &mut out.cells, out.count);
+    out.count = add(&mut out.cells, at, b"\n".as_slice());
 }
 
 /// `out` becomes the line of a note with the bytes that it gives, with its newline.

@@ -1,15 +1,13 @@
 //! `print_row` and `print_lent`: the line of a raw row.
 
-ghost use Rattle.std.specs.Prelude.{◌≡◌, ◌≤◌, ◌<◌, ◌+◌, ◌*◌, ◌++◌, length, codes, decimal, flat_map, Option};
+ghost use Rattle.std.specs.Prelude.{◌≡◌, ◌≤◌, ◌<◌, ◌+◌, ◌*◌, ◌++◌, length, take, codes, decimal, flat_map, Option};
 ghost use Rattle.kernel_model.specs.Text.{spaced, bit, queue_text, frame_text, param_text};
 ghost use Rattle.kernel_model.specs.Text.{wait_text, top_text, inverse_text, open_text, row_text};
 ghost use Rattle.kernel_model.specs.Text.{line};
 ghost use Rattle.line_text.specs.Rows.{row_lent, FitsLine};
 
-use crate::append::{
-    add, all_u32, all_u64, colon_u8, colon_u32, number_u32, spaced_u8, spaced_u32,
-};
-use crate::buffer::Buffer;
+use crate::append::{all_u32, all_u64, colon_u8, colon_u32, number_u32, spaced_u8, spaced_u32};
+use crate::cells::{Cells, add};
 use crate::print::object;
 use crate::text::Text;
 use kernel_model::{FrameRow, Inverse, OpenRow, QueueRow, RawRow, TopRow, WaitRow};
@@ -40,233 +38,237 @@ fn bit_of(b: bool) -> u8
 }
 
 /// A process of the queue.
-fn queue_row(out: &mut Buffer, r: QueueRow)
-    requires { length out.old + 19 ≤ 2048 }
-    ensures text { out.new ≡ out.old ++ queue_text r }
-    ensures len { length out.new ≤ length out.old + 19 }
+fn queue_row(out: &mut Cells, at: usize, r: QueueRow) -> usize
+    requires { at + 19 ≤ 2048 }
+    ensures text { take result out.new ≡ take at out.old ++ queue_text r }
+    ensures end { result ≤ at + 19 }
 {
-    spaced_u8(out, r.process);
-    colon_u8(out, r.nice);
-    colon_u32(out, r.slices);
+    let at = spaced_u8(out, at, r.process);
+    let at = colon_u8(out, at, r.nice);
+    colon_u32(out, at, r.slices)
 }
 
 /// The processes of the queue, front first.
-fn queue_rows(out: &mut Buffer, rows: &[QueueRow])
-    requires { length out.old + 19 * length rows.now ≤ 2048 }
-    ensures text { out.new ≡ out.old ++ flat_map queue_text rows.now }
-    ensures len { length out.new ≤ length out.old + 19 * length rows.now }
+fn queue_rows(out: &mut Cells, at: usize, rows: &[QueueRow]) -> usize
+    requires { at + 19 * length rows.now ≤ 2048 }
+    ensures text { take result out.new ≡ take at out.old ++ flat_map queue_text rows.now }
+    ensures end { result ≤ at + 19 * length rows.now }
 {
+    let mut at = at;
     for r in rows {
-        queue_row(out, *r);
+        at = queue_row(out, at, *r);
     }
+    at
 }
 
 /// A frame of the cache.
-fn frame_row(out: &mut Buffer, r: FrameRow)
-    requires { length out.old + 27 ≤ 2048 }
-    ensures text { out.new ≡ out.old ++ frame_text r }
-    ensures len { length out.new ≤ length out.old + 27 }
+fn frame_row(out: &mut Cells, at: usize, r: FrameRow) -> usize
+    requires { at + 27 ≤ 2048 }
+    ensures text { take result out.new ≡ take at out.old ++ frame_text r }
+    ensures end { result ≤ at + 27 }
 {
-    spaced_u8(out, r.frame);
-    colon_u8(out, r.owner);
-    colon_u32(out, r.block);
-    colon_u8(out, bit_of(r.dirty));
-    colon_u8(out, r.mark);
+    let at = spaced_u8(out, at, r.frame);
+    let at = colon_u8(out, at, r.owner);
+    let at = colon_u32(out, at, r.block);
+    let at = colon_u8(out, at, bit_of(r.dirty));
+    colon_u8(out, at, r.mark)
 }
 
 /// The frames in use, oldest first.
-fn frame_rows(out: &mut Buffer, rows: &[FrameRow])
-    requires { length out.old + 27 * length rows.now ≤ 2048 }
-    ensures text { out.new ≡ out.old ++ flat_map frame_text rows.now }
-    ensures len { length out.new ≤ length out.old + 27 * length rows.now }
+fn frame_rows(out: &mut Cells, at: usize, rows: &[FrameRow]) -> usize
+    requires { at + 27 * length rows.now ≤ 2048 }
+    ensures text { take result out.new ≡ take at out.old ++ flat_map frame_text rows.now }
+    ensures end { result ≤ at + 27 * length rows.now }
 {
+    let mut at = at;
     for r in rows {
-        frame_row(out, *r);
+        at = frame_row(out, at, *r);
     }
+    at
 }
 
 /// An open file.
-fn open_file(out: &mut Buffer, o: OpenRow)
-    requires { length out.old + 34 ≤ 2048 }
-    ensures text { out.new ≡ out.old ++ open_text o }
-    ensures len { length out.new ≤ length out.old + 34 }
+fn open_file(out: &mut Cells, at: usize, o: OpenRow) -> usize
+    requires { at + 34 ≤ 2048 }
+    ensures text { take result out.new ≡ take at out.old ++ open_text o }
+    ensures end { result ≤ at + 34 }
 {
-    spaced_u32(out, o.next);
-    spaced_u8(out, o.window);
-    spaced_u8(out, bit_of(o.seq));
-    spaced_u32(out, o.start);
-    spaced_u8(out, o.count);
+    let at = spaced_u32(out, at, o.next);
+    let at = spaced_u8(out, at, o.window);
+    let at = spaced_u8(out, at, bit_of(o.seq));
+    let at = spaced_u32(out, at, o.start);
+    spaced_u8(out, at, o.count)
 }
 
 /// A parameter, if there is one.
-fn param(out: &mut Buffer, v: Option<u32>)
-    requires { length out.old + 11 ≤ 2048 }
-    ensures text { out.new ≡ out.old ++ param_text v }
-    ensures len { length out.new ≤ length out.old + 11 }
+fn param(out: &mut Cells, at: usize, v: Option<u32>) -> usize
+    requires { at + 11 ≤ 2048 }
+    ensures text { take result out.new ≡ take at out.old ++ param_text v }
+    ensures end { result ≤ at + 11 }
 {
     match v {
-        None => {}
-        Some(v) => spaced_u32(out, v),
+        None => at,
+        Some(v) => spaced_u32(out, at, v),
     }
 }
 
 /// What a call waits for, if it waits.
-fn wait(out: &mut Buffer, w: Option<WaitRow>)
-    requires { length out.old + 36 ≤ 2048 }
-    ensures text { out.new ≡ out.old ++ wait_text w }
-    ensures len { length out.new ≤ length out.old + 36 }
+fn wait(out: &mut Cells, at: usize, w: Option<WaitRow>) -> usize
+    requires { at + 36 ≤ 2048 }
+    ensures text { take result out.new ≡ take at out.old ++ wait_text w }
+    ensures end { result ≤ at + 36 }
 {
     match w {
-        None => {}
+        None => at,
         Some(w) => {
-            add(out, b" waits ".as_slice());
-            object(out, w.object);
-            spaced_u8(out, w.holder);
-            spaced_u32(out, w.count)
+            let at = add(out, at, b" waits ".as_slice());
+            let at = object(out, at, w.object);
+            let at = spaced_u8(out, at, w.holder);
+            spaced_u32(out, at, w.count)
         }
     }
 }
 
 /// The innermost level, if there is one.
-fn top(out: &mut Buffer, t: Option<TopRow>)
-    requires { length out.old + 18 ≤ 2048 }
-    ensures text { out.new ≡ out.old ++ top_text t }
-    ensures len { length out.new ≤ length out.old + 18 }
+fn top(out: &mut Cells, at: usize, t: Option<TopRow>) -> usize
+    requires { at + 18 ≤ 2048 }
+    ensures text { take result out.new ≡ take at out.old ++ top_text t }
+    ensures end { result ≤ at + 18 }
 {
     match t {
-        None => {}
+        None => at,
         Some(t) => {
-            add(out, b" graft".as_slice());
-            spaced_u8(out, t.installer);
-            spaced_u8(out, t.point);
-            spaced_u8(out, t.depth)
+            let at = add(out, at, b" graft".as_slice());
+            let at = spaced_u8(out, at, t.installer);
+            let at = spaced_u8(out, at, t.point);
+            spaced_u8(out, at, t.depth)
         }
     }
 }
 
 /// A record, with the value that it puts back; of a kept segment the graft alone, since its bytes
 /// have no place in a line.
-fn inverse(out: &mut Buffer, i: Inverse)
-    requires { length out.old + 23 ≤ 2048 }
-    ensures text { out.new ≡ out.old ++ inverse_text i }
-    ensures len { length out.new ≤ length out.old + 23 }
+fn inverse(out: &mut Cells, at: usize, i: Inverse) -> usize
+    requires { at + 23 ≤ 2048 }
+    ensures text { take result out.new ≡ take at out.old ++ inverse_text i }
+    ensures end { result ≤ at + 23 }
 {
     match i {
         Inverse::Cell(q, k, v) => {
-            add(out, b"cell".as_slice());
-            spaced_u8(out, q);
-            spaced_u8(out, k);
-            spaced_u32(out, v)
+            let at = add(out, at, b"cell".as_slice());
+            let at = spaced_u8(out, at, q);
+            let at = spaced_u8(out, at, k);
+            spaced_u32(out, at, v)
         }
         Inverse::Nice(q, v) => {
-            add(out, b"nice".as_slice());
-            spaced_u8(out, q);
-            spaced_u8(out, v)
+            let at = add(out, at, b"nice".as_slice());
+            let at = spaced_u8(out, at, q);
+            spaced_u8(out, at, v)
         }
         Inverse::Window(q, fd, v) => {
-            add(out, b"window".as_slice());
-            spaced_u8(out, q);
-            spaced_u8(out, fd);
-            spaced_u8(out, v)
+            let at = add(out, at, b"window".as_slice());
+            let at = spaced_u8(out, at, q);
+            let at = spaced_u8(out, at, fd);
+            spaced_u8(out, at, v)
         }
         Inverse::Mark(f, v) => {
-            add(out, b"mark".as_slice());
-            spaced_u8(out, f);
-            spaced_u8(out, v)
+            let at = add(out, at, b"mark".as_slice());
+            let at = spaced_u8(out, at, f);
+            spaced_u8(out, at, v)
         }
         Inverse::Tune(kind, k, v) => {
-            add(out, b"tune".as_slice());
-            spaced_u8(out, kind);
-            spaced_u8(out, k);
-            spaced_u32(out, v)
+            let at = add(out, at, b"tune".as_slice());
+            let at = spaced_u8(out, at, kind);
+            let at = spaced_u8(out, at, k);
+            spaced_u32(out, at, v)
         }
         Inverse::Segment(q, pt) => {
-            add(out, b"seg".as_slice());
-            spaced_u8(out, q);
-            spaced_u8(out, pt)
+            let at = add(out, at, b"seg".as_slice());
+            let at = spaced_u8(out, at, q);
+            spaced_u8(out, at, pt)
         }
     }
 }
 
 /// The text of a row, without the number of its event.
-fn row_bytes(row: &LentRow, out: &mut Buffer)
-    requires room { length out.old ≤ 15 }
+fn row_bytes(row: &LentRow, out: &mut Cells, at: usize) -> usize
+    requires room { at ≤ 15 }
     requires lists { FitsLine row.now }
-    ensures text { out.new ≡ out.old ++ row_text (row_lent row.now) }
-    ensures len { length out.new < 2048 }
+    ensures text { take result out.new ≡ take at out.old ++ row_text (row_lent row.now) }
+    ensures end { result < 2048 }
 {
     match *row {
         LentRow::Clock(t) => {
-            add(out, b"clock".as_slice());
-            spaced_u32(out, t)
+            let at = add(out, at, b"clock".as_slice());
+            spaced_u32(out, at, t)
         }
         LentRow::Queue(rows) => {
-            add(out, b"queue".as_slice());
-            queue_rows(out, rows)
+            let at = add(out, at, b"queue".as_slice());
+            queue_rows(out, at, rows)
         }
         LentRow::Acct(p, amounts) => {
-            add(out, b"acct".as_slice());
-            spaced_u8(out, p);
-            all_u64(out, amounts)
+            let at = add(out, at, b"acct".as_slice());
+            let at = spaced_u8(out, at, p);
+            all_u64(out, at, amounts)
         }
         LentRow::Cells(p, cells) => {
-            add(out, b"cells".as_slice());
-            spaced_u8(out, p);
-            all_u32(out, cells)
+            let at = add(out, at, b"cells".as_slice());
+            let at = spaced_u8(out, at, p);
+            all_u32(out, at, cells)
         }
         LentRow::OpenFile(p, fd, name, o) => {
-            add(out, b"open".as_slice());
-            spaced_u8(out, p);
-            spaced_u8(out, fd);
-            add(out, b" ".as_slice());
-            add(out, name);
-            open_file(out, o)
+            let at = add(out, at, b"open".as_slice());
+            let at = spaced_u8(out, at, p);
+            let at = spaced_u8(out, at, fd);
+            let at = add(out, at, b" ".as_slice());
+            let at = add(out, at, name);
+            open_file(out, at, o)
         }
         LentRow::Graft(q, pt, image, limit, billed, amounts) => {
-            add(out, b"graft".as_slice());
-            spaced_u8(out, q);
-            spaced_u8(out, pt);
-            spaced_u8(out, image);
-            spaced_u32(out, limit);
-            spaced_u8(out, bit_of(billed));
-            all_u64(out, amounts)
+            let at = add(out, at, b"graft".as_slice());
+            let at = spaced_u8(out, at, q);
+            let at = spaced_u8(out, at, pt);
+            let at = spaced_u8(out, at, image);
+            let at = spaced_u32(out, at, limit);
+            let at = spaced_u8(out, at, bit_of(billed));
+            all_u64(out, at, amounts)
         }
         LentRow::Pol(kind, j, v) => {
-            add(out, b"pol".as_slice());
-            spaced_u8(out, kind);
-            spaced_u8(out, j);
-            param(out, v)
+            let at = add(out, at, b"pol".as_slice());
+            let at = spaced_u8(out, at, kind);
+            let at = spaced_u8(out, at, j);
+            param(out, at, v)
         }
         LentRow::Lru(rows) => {
-            add(out, b"lru".as_slice());
-            frame_rows(out, rows)
+            let at = add(out, at, b"lru".as_slice());
+            frame_rows(out, at, rows)
         }
         LentRow::Lock(u, p) => {
-            add(out, b"lock".as_slice());
-            spaced_u8(out, u);
-            spaced_u8(out, p)
+            let at = add(out, at, b"lock".as_slice());
+            let at = spaced_u8(out, at, u);
+            spaced_u8(out, at, p)
         }
         LentRow::Call(p, m, w, t) => {
-            add(out, b"call".as_slice());
-            spaced_u8(out, p);
-            spaced_u32(out, m);
-            wait(out, w);
-            top(out, t)
+            let at = add(out, at, b"call".as_slice());
+            let at = spaced_u8(out, at, p);
+            let at = spaced_u32(out, at, m);
+            let at = wait(out, at, w);
+            top(out, at, t)
         }
         LentRow::Level(p, d, q, pt, taken) => {
-            add(out, b"level".as_slice());
-            spaced_u8(out, p);
-            spaced_u8(out, d);
-            spaced_u8(out, q);
-            spaced_u8(out, pt);
-            spaced_u32(out, taken)
+            let at = add(out, at, b"level".as_slice());
+            let at = spaced_u8(out, at, p);
+            let at = spaced_u8(out, at, d);
+            let at = spaced_u8(out, at, q);
+            let at = spaced_u8(out, at, pt);
+            spaced_u32(out, at, taken)
         }
         LentRow::Undo(p, d, i) => {
-            add(out, b"undo".as_slice());
-            spaced_u8(out, p);
-            spaced_u8(out, d);
-            add(out, b" ".as_slice());
-            inverse(out, i)
+            let at = add(out, at, b"undo".as_slice());
+            let at = spaced_u8(out, at, p);
+            let at = spaced_u8(out, at, d);
+            let at = add(out, at, b" ".as_slice());
+            inverse(out, at, i)
         }
     }
 }
@@ -306,9 +308,8 @@ pub fn print_lent(n: u32, row: &LentRow, out: &mut Text)
     requires { FitsLine row.now }
     ensures { out.new ≡ line (decimal n ++ codes " raw " ++ row_text (row_lent row.now)) }
 {
-    out.bytes.clear();
-    number_u32(&mut out.bytes, n);
-    add(&mut out.bytes, b" raw ".as_slice());
-    row_bytes(row, &mut out.bytes);
-    add(&mut out.bytes, b"\n".as_slice());
+    let at = number_u32(&mut out.cells, 0, n);
+    let at = add(&mut out.cells, at, b" raw ".as_slice());
+    let at = row_bytes(row, &mut out.cells, at);
+    out.count = add(&mut out.cells, at, b"\n".as_slice());
 }

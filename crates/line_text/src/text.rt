@@ -4,23 +4,31 @@ ghost use Rattle.std.specs.Prelude.{◌≡◌, ◌≤◌, ◌+◌, ◌*◌, [], 
 ghost use Rattle.kernel_model.specs.Bytes.{hex_text};
 ghost use Rattle.kernel_model.specs.Text.{spaced};
 
-use crate::append::{add, hex_digits, spaced_u64};
-use crate::buffer::{Buffer, TEXT_BYTES};
+use crate::append::spaced_u64;
+use crate::cells::{Cells, TEXT_BYTES, add, hex_digits};
 use std::marker::Model;
 
 /// At most 2,048 bytes, which lie in the value itself: no call takes memory. Contracts see their
 /// list.
 #[derive(Drop)]
 pub struct Text {
-    pub(crate) bytes: Buffer,
+    pub(crate) cells: Cells,
+    pub(crate) count: usize,
 }
 
 impl Model for Text {
-    ghost use Rattle.std.specs.Prelude.{ℕ, List};
+    ghost use Rattle.std.specs.Prelude.{ℕ, List, ◌≤◌, take};
 
     ghost Value = { List ℕ };
 
-    ghost view = { λ t. t.bytes };
+    ghost view = { λ t. take t.count t.cells };
+
+    ghost invariant = { λ t. t.count ≤ 2048 };
+}
+
+/// Zeros.
+fn zeros<const N: usize>() -> [u8; N] {
+    [0; N]
 }
 
 impl Text {
@@ -29,7 +37,8 @@ impl Text {
         ensures { result ≡ [] }
     {
         Text {
-            bytes: Buffer::new(),
+            cells: zeros(),
+            count: 0,
         }
     }
 
@@ -38,7 +47,11 @@ impl Text {
         ensures fits { result ≡ nat_lt (length self.old) TEXT_BYTES }
         ensures value { self.new ≡ (if result then self.old ++ v ∷ [] else self.old) }
     {
-        self.bytes.push(v)
+        if self.count == TEXT_BYTES {
+            return false;
+        }
+        self.count = add(&mut self.cells, self.count, [v].as_slice());
+        true
     }
 
     /// Appends bytes.
@@ -47,7 +60,7 @@ impl Text {
         ensures text { self.new ≡ self.old ++ bytes.now }
         ensures len { length self.new ≡ length self.old + length bytes.now }
     {
-        add(&mut self.bytes, bytes);
+        self.count = add(&mut self.cells, self.count, bytes);
     }
 
     /// Appends a space and a number, of at most 20 digits.
@@ -56,7 +69,7 @@ impl Text {
         ensures text { self.new ≡ self.old ++ spaced n }
         ensures len { length self.new ≤ length self.old + 21 }
     {
-        spaced_u64(&mut self.bytes, n);
+        self.count = spaced_u64(&mut self.cells, self.count, n);
     }
 
     /// Appends bytes as hex digits of lower case.
@@ -65,7 +78,7 @@ impl Text {
         ensures text { self.new ≡ self.old ++ hex_text bytes.now }
         ensures len { length self.new ≡ length self.old + 2 * length bytes.now }
     {
-        hex_digits(&mut self.bytes, bytes);
+        self.count = hex_digits(&mut self.cells, self.count, bytes);
     }
 
     /// The bytes, first to last.
@@ -73,22 +86,22 @@ impl Text {
         ensures value { result.now ≡ self.now }
         ensures fits { length result.now ≤ TEXT_BYTES }
     {
-        self.bytes.as_slice()
+        &self.cells[..self.count]
     }
 
     /// No bytes again.
     pub fn clear(&mut self)
         ensures { self.new ≡ [] }
     {
-        self.bytes.clear();
+        self.count = 0;
     }
 
     /// The same text once more.
     pub fn copy(&self) -> Text
         ensures { result ≡ self.now }
     {
-        let mut bytes = Buffer::new();
-        bytes.add(self.bytes.as_slice());
-        Text { bytes }
+        let mut text = Text::new();
+        text.add(self.as_slice());
+        text
     }
 }

@@ -236,6 +236,10 @@ impl<C: Calls, B: Policy> Running<C, B> {
         ensures { let x = placed_of self.now in
             option_map entry_of result ≡ expired_by x.world x.order }
     {
-        first_over(&self.store.setup.patience, self.order.entries())
+        let entries = self.order.entries();
+        if entries.is_empty() {
+            return None;
+        }
+        first_over(&self.store.setup.patience, entries)
     }
 }

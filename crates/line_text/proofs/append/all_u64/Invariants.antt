@@ -1,9 +1,9 @@
-use Rattle.std.proofs.Common.{◌≡◌, ◌≤◌, ◌+◌, ◌*◌, ◌++◌, length, take}
+use Rattle.std.proofs.Common.{◌≡◌, ◌≤◌, ◌+◌, ◌*◌, ◌++◌, take}
 use Rattle.kernel_model.specs.Text.{all_spaced}
 use Rattle.line_text.proofs.append.all_u64.Given as goal
 
 abbrev pub invariant-loop-n : goal.invariant-loop-n
 invariant-loop-n l = record {
-  text : l.out ≡ l.initial.out ++ all_spaced (take l.n-index l.ns);
-  len : length l.out ≤ length l.initial.out + 21 * l.n-index;
+  text : take l.at l.out ≡ take l.initial.at l.initial.out ++ all_spaced (take l.n-index l.ns);
+  end : l.at ≤ l.initial.at + 21 * l.n-index;
 }

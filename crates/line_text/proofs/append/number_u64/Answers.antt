@@ -3,10 +3,10 @@ use Rattle.std.proofs.Common.{arith}
 use Rattle.std.proofs.lemmas.Fmt.{length-decimal-le}
 use Rattle.line_text.proofs.append.number_u64.Goals as goal
 
-pub add_number-requires : goal.add_number-requires
-add_number-requires c =
+pub number-requires : goal.number-requires
+number-requires c =
     omega (arith, c.requires, length-decimal-le 20 c.args.n (omega arith) (omega (arith, c.ranges.n.fits)) (omega (arith, c.ranges.n.fits)))
 
-pub returns-clause-len : goal.returns-clause-len
-returns-clause-len c =
-    omega (arith, c.add_number.ensures.len, length-decimal-le 20 c.args.n (omega arith) (omega (arith, c.ranges.n.fits)) (omega (arith, c.ranges.n.fits)))
+pub returns-clause-end : goal.returns-clause-end
+returns-clause-end c =
+    omega (arith, c.number.ensures.end, length-decimal-le 20 c.args.n (omega arith) (omega (arith, c.ranges.n.fits)) (omega (arith, c.ranges.n.fits)))

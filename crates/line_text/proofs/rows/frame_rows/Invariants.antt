@@ -1,9 +1,9 @@
-use Rattle.std.proofs.Common.{◌≡◌, ◌≤◌, ◌+◌, ◌*◌, ◌++◌, length, take, flat_map}
+use Rattle.std.proofs.Common.{◌≡◌, ◌≤◌, ◌+◌, ◌*◌, ◌++◌, take, flat_map}
 use Rattle.kernel_model.specs.Text.{frame_text}
 use Rattle.line_text.proofs.rows.frame_rows.Given as goal
 
 abbrev pub invariant-loop-r : goal.invariant-loop-r
 invariant-loop-r l = record {
-  text : l.out ≡ l.initial.out ++ flat_map frame_text (take l.r-index l.rows);
-  len : length l.out ≤ length l.initial.out + 27 * l.r-index;
+  text : take l.at l.out ≡ take l.initial.at l.initial.out ++ flat_map frame_text (take l.r-index l.rows);
+  end : l.at ≤ l.initial.at + 27 * l.r-index;
 }

@@ -1,9 +1,9 @@
-use Rattle.std.proofs.Common.{◌≡◌, ◌≤◌, ◌+◌, ◌*◌, ◌++◌, length, take, flat_map}
+use Rattle.std.proofs.Common.{◌≡◌, ◌≤◌, ◌+◌, ◌*◌, ◌++◌, take, flat_map}
 use Rattle.kernel_model.specs.Text.{queue_text}
 use Rattle.line_text.proofs.rows.queue_rows.Given as goal
 
 abbrev pub invariant-loop-r : goal.invariant-loop-r
 invariant-loop-r l = record {
-  text : l.out ≡ l.initial.out ++ flat_map queue_text (take l.r-index l.rows);
-  len : length l.out ≤ length l.initial.out + 19 * l.r-index;
+  text : take l.at l.out ≡ take l.initial.at l.initial.out ++ flat_map queue_text (take l.r-index l.rows);
+  end : l.at ≤ l.initial.at + 19 * l.r-index;
 }
