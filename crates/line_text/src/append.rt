@@ -1,7 +1,7 @@
 //! Numbers and data are put behind the first cells, as bytes are. Each function says how much room
 //! it needs.
 
-ghost use Rattle.std.specs.Prelude.{◌≡◌, ◌<◌, ◌≤◌, ◌+◌, ◌*◌, ◌∷◌, ◌++◌, length, decimal, take, flat_map};
+ghost use Rattle.std.specs.Prelude.{◌≡◌, ◌<◌, ◌≤◌, ◌+◌, ◌*◌, ◌∷◌, ◌++◌, length, take, decimal};
 ghost use Rattle.kernel_model.specs.Text.{spaced, after_colon, all_spaced, data_text};
 
 use crate::cells::{Cells, add, hex_digits, number};

@@ -2,7 +2,7 @@
 //! text so far. Each function is told how many those are, and says how many there are then, so that
 //! this count need not go through memory between two parts of a line.
 
-ghost use Rattle.std.specs.Prelude.{◌≡◌, ◌<◌, ◌≤◌, ◌+◌, ◌*◌, ◌++◌, length, take, decimal};
+ghost use Rattle.std.specs.Prelude.{◌≡◌, ◌≤◌, ◌+◌, ◌*◌, ◌++◌, length, take, decimal};
 ghost use Rattle.kernel_model.specs.Bytes.{hex_text};
 
 use crate::digits::count_digits;

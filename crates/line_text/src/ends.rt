@@ -1,6 +1,6 @@
 //! The lines of a run that have no note: of `boot`, of images, of refused lines.
 
-ghost use Rattle.std.specs.Prelude.{◌≡◌, ◌≤◌, ◌++◌, [], ◌∷◌, length, codes, decimal};
+ghost use Rattle.std.specs.Prelude.{◌≡◌, ◌≤◌, ◌++◌, ◌∷◌, length, codes, decimal};
 ghost use Rattle.kernel_model.specs.Text.{line, spaced, boot_text, left_text, usage_text};
 
 use crate::append::{number_u8, number_u32, spaced_u8, spaced_u32};

@@ -1,6 +1,6 @@
 //! `print_note`: the line of a note.
 
-ghost use Rattle.std.specs.Prelude.{◌≡◌, ◌≤◌, ◌<◌, ◌+◌, [], ◌++◌, length, take};
+ghost use Rattle.std.specs.Prelude.{◌≡◌, ◌≤◌, ◌<◌, ◌+◌, ◌++◌, length, take};
 ghost use Rattle.kernel_model.specs.Bare.{note_with};
 ghost use Rattle.kernel_model.specs.Text.{spaced, pair_text, single_text, object_text, reply_text};
 ghost use Rattle.kernel_model.specs.Text.{refusal_text, cause_text, note_text, line};
