@@ -14,7 +14,6 @@ use kernel_model::{Kind, Refusal, Reply};
 use kernel_state::Store;
 
 /// Process p gives n to process q, if that lives.
-#[inline(never)]
 pub(crate) fn give<B: Policy>(store: &mut Store<B>, p: u8, q: u32, k: Kind, n: u32) -> Next
     requires { CanGive (queue_of store.old) p q }
     ensures done { EndsAtOnce (λ blocks. give_piece (objects_of store.old) p q k n blocks
@@ -30,7 +29,6 @@ pub(crate) fn give<B: Policy>(store: &mut Store<B>, p: u8, q: u32, k: Kind, n: u
 }
 
 /// A graft is put at point pt of process p, if none stands there.
-#[inline(never)]
 pub(crate) fn install<B: Policy>(
     store: &mut Store<B>,
     p: u8,
@@ -53,7 +51,6 @@ pub(crate) fn install<B: Policy>(
 }
 
 /// The graft at point pt of process p is taken out, if one stands there.
-#[inline(never)]
 pub(crate) fn remove<B: Policy>(store: &mut Store<B>, p: u8, pt: u32) -> Next
     requires place { HasPoint (queue_of store.old) p pt }
     ensures done { EndsAtOnce (remove_piece (objects_of store.old) p pt
@@ -67,7 +64,6 @@ pub(crate) fn remove<B: Policy>(store: &mut Store<B>, p: u8, pt: u32) -> Next
 }
 
 /// Process p gives n to its graft at point pt, if one stands there.
-#[inline(never)]
 pub fn fund<B: Policy>(store: &mut Store<B>, p: u8, pt: u32, k: Kind, n: u32) -> Next
     requires place { HasPoint (queue_of store.old) p pt }
     ensures done { EndsAtOnce (fund_piece (objects_of store.old) p pt k n
@@ -83,7 +79,6 @@ pub fn fund<B: Policy>(store: &mut Store<B>, p: u8, pt: u32, k: Kind, n: u32) ->
 }
 
 /// From here on process p pays for its graft at point pt, if one stands there.
-#[inline(never)]
 pub fn bill<B: Policy>(store: &mut Store<B>, p: u8, pt: u32) -> Next
     requires place { HasPoint (queue_of store.old) p pt }
     ensures done { EndsAtOnce (bill_piece (objects_of store.old) p pt

@@ -28,7 +28,6 @@ use kernel_model::{OpenRow, Refusal, Reply};
 use kernel_state::Store;
 
 /// A new process joins at the back of the queue.
-#[inline(never)]
 pub(crate) fn spawn<B: Policy>(store: &mut Store<B>) -> Next
     ensures done { EndsWithQueue
         (spawn_piece (objects_of store.old) (free_process (queue_of store.old) 16 0))
@@ -44,7 +43,6 @@ pub(crate) fn spawn<B: Policy>(store: &mut Store<B>) -> Next
 }
 
 /// Process p leaves, which isn't 0.
-#[inline(never)]
 pub(crate) fn exit<B: Policy>(store: &mut Store<B>, p: u8) -> Next
     requires { CanExit (queue_of store.old) p }
     ensures done { EndsWithQueue (exit_piece (objects_of store.old) p)
@@ -114,7 +112,6 @@ pub(crate) fn peek<B: Policy>(store: &Store<B>, p: u8, k: u32) -> Next
 }
 
 /// The file of this name is opened at the lowest free descriptor of process p.
-#[inline(never)]
 pub(crate) fn open<B: Policy>(store: &mut Store<B>, p: u8, name: &[u8]) -> Next
     requires alive { lives (queue_of store.old) p ≡ true }
     ensures done { EndsAtOnce (open_piece (objects_of store.old) p
@@ -150,7 +147,6 @@ fn open_at<B: Policy>(store: &mut Store<B>, p: u8, fd: u8, file: u8) -> Next
 }
 
 /// The file at descriptor fd of process p is closed.
-#[inline(never)]
 pub(crate) fn close<B: Policy>(store: &mut Store<B>, p: u8, fd: u32) -> Next
     requires { HasDescriptor (queue_of store.old) p fd }
     ensures done { EndsAtOnce (close_piece (objects_of store.old) p fd

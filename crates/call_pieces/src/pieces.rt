@@ -56,8 +56,7 @@ pub fn piece<B: Policy, D: Disk>(
     bare_piece(work, store, answer, disk, log, gave)
 }
 
-/// The same, but for what the call carries, which stays. The rarer pieces stand apart, so that those
-/// that are inlined keep their registers.
+/// The same, but for what the call carries, which stays.
 #[inline(always)]
 fn bare_piece<B: Policy, D: Disk>(
     work: &mut Work,

@@ -12,7 +12,6 @@ use kernel_model::{Refusal, Reply};
 use kernel_state::Store;
 
 /// Parameter k of the chosen policy of a kind gets a value, if it takes it.
-#[inline(never)]
 pub(crate) fn tune<B: Policy>(store: &mut Store<B>, kind: u32, k: u32, v: u32) -> Next
     requires granted { kind < 3 }
     ensures done { EndsAtOnce (tune_piece (objects_of store.old) kind k v)
@@ -26,7 +25,6 @@ pub(crate) fn tune<B: Policy>(store: &mut Store<B>, kind: u32, k: u32, v: u32) -
 }
 
 /// Policy j of a kind is chosen.
-#[inline(never)]
 pub(crate) fn choose<B: Policy>(store: &mut Store<B>, kind: u32, j: u32) -> Next
     requires kind { kind < 3 }
     requires granted { j < policy_count kind }

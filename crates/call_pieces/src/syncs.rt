@@ -23,7 +23,6 @@ use vino_base::{Disk, Failed};
 
 /// Writes the dirty frames in the order of their numbers; each is clean then. Where a call of the
 /// disk fails, what was written before stays written. No byte of memory changes.
-#[inline(never)]
 pub(crate) fn sync<B: Policy, D: Disk>(
     store: &mut Store<B>,
     disk: &mut D,
