@@ -2,6 +2,7 @@
 use Rattle.std.specs.Prelude.{◌≡◌, ℕ, ◌<◌, Bool, true, false, List, ◌++◌, length, Option, nat_le}
 use Rattle.kernel_model.specs.declared.Refusal.TheVariants.{DiskFault}
 use Rattle.kernel_model.specs.declared.OpenRow.{OpenRow}
+use Rattle.kernel_model.specs.declared.BareCall.{BareCall}
 use Rattle.kernel_model.specs.World.{World, Blocks}
 use Rattle.kernel_model.specs.Objects.{Objects}
 use Rattle.kernel_model.specs.Meaning.{Meaning, Stage, Piece, After, Continues, EndsWith, Fails}
@@ -44,6 +45,20 @@ pub record PieceMatchesSome (v : World) (piece : Blocks → List Bool → Piece)
 abbrev pub is_fault : Next → Bool
 is_fault (Next.Fails DiskFault) = true
 is_fault _ = false
+
+-- a call reads a file
+abbrev pub is_read : BareCall → Bool
+is_read (BareCall.Read _ _ _ _) = true
+is_read _ = false
+
+-- a call has one of the pieces that come most often
+abbrev pub is_frequent : BareCall → Bool
+is_frequent BareCall.Yield = true
+is_frequent (BareCall.TakeLock _) = true
+is_frequent (BareCall.FreeLock _) = true
+is_frequent (BareCall.Poke _ _) = true
+is_frequent (BareCall.Peek _) = true
+is_frequent c = is_read c
 
 -- what comes after a piece, where the call stands so now
 abbrev pub comes_after : Next → Stage → After

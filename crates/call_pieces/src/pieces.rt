@@ -1,6 +1,6 @@
 //! `piece`.
 
-ghost use Rattle.std.specs.Prelude.{◌≡◌, true};
+ghost use Rattle.std.specs.Prelude.{◌≡◌, true, false, None};
 ghost use Rattle.kernel_model.specs.Needs.{piece_ask};
 ghost use Rattle.kernel_model.specs.Laws.{IsRightAnswer};
 ghost use Rattle.disk_log.specs.Calls.{Made};
@@ -8,7 +8,7 @@ ghost use Rattle.kernel_state.specs.Stores.{world_of_store, objects_of};
 ghost use Rattle.call_needs.specs.Fetching.{moment};
 ghost use Rattle.call_needs.specs.Works.{bare_stage_of, call_of, stage_of, IsPlainDue};
 ghost use Rattle.call_pieces.specs.Shared.{DiskReady, ServesWithQueue, piece_on, queue_on};
-ghost use Rattle.call_pieces.specs.Matching.{HasContinued, goes_on};
+ghost use Rattle.call_pieces.specs.Matching.{HasContinued, goes_on, is_frequent, is_read};
 
 use crate::Next;
 use crate::amounts::{bill, fund, give, install, remove};
@@ -56,7 +56,8 @@ pub fn piece<B: Policy, D: Disk>(
     bare_piece(work, store, answer, disk, log, gave)
 }
 
-/// The same, but for what the call carries, which stays.
+/// The same, but for what the call carries, which stays. The pieces that come most often are done here,
+/// so that what follows a piece stands in a register.
 #[inline(always)]
 fn bare_piece<B: Policy, D: Disk>(
     work: &mut Work,
@@ -82,22 +83,88 @@ fn bare_piece<B: Policy, D: Disk>(
     gave.clear();
     let p = work.caller;
     match work.call {
-        BareCall::Spawn => spawn(store),
-        BareCall::Exit => exit(store, p),
         BareCall::Yield => yield_turn(&mut work.piece, store, p, answer),
-        BareCall::OpenName => open(store, p, work.bytes.as_slice()),
-        BareCall::CloseFd(fd) => close(store, p, fd),
-        BareCall::Read(fd, i, off, len) => {
-            let access = Access {
-                p,
-                fd,
-                i,
-                off,
-                len,
-                answer,
-            };
-            read(&mut work.piece, store, disk, log, gave, access)
+        BareCall::TakeLock(u) => take_lock(store, p, u),
+        BareCall::FreeLock(u) => free_lock(store, p, u),
+        BareCall::Poke(k, v) => poke(store, p, k, v),
+        BareCall::Peek(k) => peek(store, p, k),
+        BareCall::Read(..) => {
+            let next = read_file(work, store, answer, disk, log, gave);
+            next
         }
+        _ => {
+            let next = rarer_piece(work, store, answer, disk, log, gave);
+            next
+        }
+    }
+}
+
+/// A piece of a read, where no bytes were given yet.
+#[inline(never)]
+fn read_file<B: Policy, D: Disk>(
+    work: &mut Work,
+    store: &mut Store<B>,
+    answer: Option<[u32; 4]>,
+    disk: &mut D,
+    log: &mut DiskLog,
+    gave: &mut Gift,
+) -> Next
+    requires ready { IsPlainDue (world_of_store store.old) (objects_of store.old) work.old.caller
+        (stage_of work.old) }
+    requires right { IsRightAnswer (objects_of store.old)
+        (piece_ask (call_of work.old) work.old.piece (world_of_store store.old)
+        (objects_of store.old).things work.old.caller) answer }
+    requires disk { DiskReady (moment store.old (D.seen disk.old) log.old) }
+    requires nothing { gave.old ≡ None }
+    requires kind { is_read work.old.call ≡ true }
+    ensures done { ServesWithQueue (piece_on work.old store.old answer)
+        (queue_on work.old store.old answer) (moment store.old (D.seen disk.old) log.old)
+        (moment store.new (D.seen disk.new) log.new) gave.new result (bare_stage_of work.new) }
+    ensures gone { goes_on result ≡ true →
+        HasContinued work.old work.new (objects_of store.old) (objects_of store.new) }
+    ensures carries { work.new ≡ record (work.old) { piece = work.new.piece } }
+{
+    let BareCall::Read(fd, i, off, len) = work.call else {
+        return Next::Fails(Refusal::BadPoint);
+    };
+    let access = Access {
+        p: work.caller,
+        fd,
+        i,
+        off,
+        len,
+        answer,
+    };
+    read(&mut work.piece, store, disk, log, gave, access)
+}
+
+/// A piece of a call that `bare_piece` doesn't do itself, where no bytes were given yet.
+#[inline(never)]
+fn rarer_piece<B: Policy, D: Disk>(
+    work: &mut Work,
+    store: &mut Store<B>,
+    answer: Option<[u32; 4]>,
+    disk: &mut D,
+    log: &mut DiskLog,
+    gave: &mut Gift,
+) -> Next
+    requires ready { IsPlainDue (world_of_store store.old) (objects_of store.old) work.old.caller
+        (stage_of work.old) }
+    requires right { IsRightAnswer (objects_of store.old)
+        (piece_ask (call_of work.old) work.old.piece (world_of_store store.old)
+        (objects_of store.old).things work.old.caller) answer }
+    requires disk { DiskReady (moment store.old (D.seen disk.old) log.old) }
+    requires nothing { gave.old ≡ None }
+    requires rarer { is_frequent work.old.call ≡ false }
+    ensures done { ServesWithQueue (piece_on work.old store.old answer)
+        (queue_on work.old store.old answer) (moment store.old (D.seen disk.old) log.old)
+        (moment store.new (D.seen disk.new) log.new) gave.new result (bare_stage_of work.new) }
+    ensures gone { goes_on result ≡ true →
+        HasContinued work.old work.new (objects_of store.old) (objects_of store.new) }
+    ensures carries { work.new ≡ record (work.old) { piece = work.new.piece } }
+{
+    let p = work.caller;
+    match work.call {
         BareCall::Write(fd, i, off) => {
             let bytes = work.bytes.as_slice();
             let len = bytes.len() as u32;
@@ -111,14 +178,14 @@ fn bare_piece<B: Policy, D: Disk>(
             };
             write(store, disk, log, access, bytes)
         }
+        BareCall::Give(q, kind, n) => give(store, p, q, kind, n),
+        BareCall::Spawn => spawn(store),
+        BareCall::Exit => exit(store, p),
+        BareCall::OpenName => open(store, p, work.bytes.as_slice()),
+        BareCall::CloseFd(fd) => close(store, p, fd),
         BareCall::Sync => sync(store, disk, log),
-        BareCall::TakeLock(u) => take_lock(store, p, u),
-        BareCall::FreeLock(u) => free_lock(store, p, u),
-        BareCall::Poke(k, v) => poke(store, p, k, v),
-        BareCall::Peek(k) => peek(store, p, k),
         BareCall::Tune(kind, k, v) => tune(store, kind, k, v),
         BareCall::Choose(kind, j) => choose(store, kind, j),
-        BareCall::Give(q, kind, n) => give(store, p, q, kind, n),
         BareCall::Install(pt, image, limit) => install(store, p, pt, image, limit),
         BareCall::Remove(pt) => remove(store, p, pt),
         BareCall::Fund(pt, kind, n) => fund(store, p, pt, kind, n),
@@ -126,5 +193,12 @@ fn bare_piece<B: Policy, D: Disk>(
         BareCall::Serve(_) | BareCall::StreamRead(_, _, _, _) | BareCall::StreamWrite(_, _, _) => {
             Next::Fails(Refusal::BadPoint)
         }
+        // None of the others comes here.
+        BareCall::Yield
+        | BareCall::Read(_, _, _, _)
+        | BareCall::TakeLock(_)
+        | BareCall::FreeLock(_)
+        | BareCall::Poke(_, _)
+        | BareCall::Peek(_) => Next::Fails(Refusal::BadPoint),
     }
 }

@@ -25,6 +25,7 @@ use kernel_state::{Ahead, Store};
 use vino_base::Disk;
 
 /// The next piece of a read.
+#[inline(always)]
 pub(crate) fn read<B: Policy, D: Disk>(
     piece: &mut u8,
     store: &mut Store<B>,

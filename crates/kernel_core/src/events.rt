@@ -97,7 +97,10 @@ fn system<C: Calls, B: Policy, D: Disk>(
     }
 }
 
-/// Instructions of process p's call, at most n, or a refusal.
+/// Instructions of process p's call, at most n, or a refusal. It is marked cold, so that the code of
+/// a system call stands together.
+#[cold]
+#[inline(never)]
 fn stepped<C: Calls, B: Policy, D: Disk>(
     running: &mut Running<C, B>,
     number: u32,

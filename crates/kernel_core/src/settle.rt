@@ -71,7 +71,9 @@ fn settle<C: Calls, B: Policy, D: Disk>(
     settle(running, turns - 1, disk, trace);
 }
 
-/// The same, once process p's call, which has begun, has joined the order.
+/// The same, once process p's call, which has begun, has joined the order. It is marked cold, so that
+/// the code of a call that goes on alone stands together.
+#[cold]
 #[inline(never)]
 fn settle_joined<C: Calls, B: Policy, D: Disk>(
     running: &mut Running<C, B>,
