@@ -1,5 +1,5 @@
 -- The pieces of a read.
-use Rattle.std.proofs.Common.{◌≡◌, ℕ, zero, suc, ◌+◌, ◌-◌, ◌≤◌, ◌&&◌, nat_le, nat_lt, Bool, true, List, Option, Some, None, Result, Ok, slice_range, refl, arith, sym, ◌∙◌, ap, subst}
+use Rattle.std.proofs.Common.{◌≡◌, ℕ, zero, suc, ◌+◌, ◌-◌, ◌≤◌, ◌&&◌, nat_le, nat_lt, Bool, true, List, Option, Some, None, Result, Ok, slice_range, refl, arith, sym, ◌∙◌, ap, subst, option_map}
 use Rattle.std.proofs.lemmas.Bool.{and_parts}
 use Rattle.std.proofs.lemmas.Bool.Decides.{nat_tests}
 use Rattle.kernel_model.specs.declared.OpenRow.{OpenRow}
@@ -38,6 +38,15 @@ here f p fd o = grind (arith, nat_tests)
 -- the file at the descriptor that changed
 pub file_here : (s t : Objects) (p fd : ℕ) (o : OpenRow) → t ≡ with_file p fd (Some o) s → t.things.file p fd ≡ Some o
 file_here s t p fd o is = ap (λ (x : Objects). x.things.file p fd) is ∙ here (s.things.file) p fd (Some o)
+
+-- the file at the descriptor that changed in place
+pub changed_file : (s t : Objects) (p fd : ℕ) (change : OpenRow → OpenRow) (o : OpenRow) → s.things.file p fd ≡ Some o → t ≡ with_file p fd (option_map change (s.things.file p fd)) s
+    → t ≡ with_file p fd (Some (change o)) s
+changed_file s t p fd change o found is = is ∙ ap (λ (x : Option OpenRow). with_file p fd (option_map change x) s) found
+
+-- a file that is open at a descriptor is so once the cache changed
+pub file_after : (s t : Objects) (p fd : ℕ) (cache : CacheValue) (o : OpenRow) → t ≡ with_cache cache s → s.things.file p fd ≡ Some o → t.things.file p fd ≡ Some o
+file_after s t p fd cache o is found = ap (λ (x : Objects). x.things.file p fd) is ∙ found
 
 -- before the second piece
 pub goes_first : (o y : OpenRow) (x : Option OpenRow) → x ≡ Some y → ReadContinues 0 1 (Some o) x

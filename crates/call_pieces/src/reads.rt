@@ -90,13 +90,8 @@ fn first<B: Policy, D: Disk>(
     let Ok(f) = fetch(store, disk, log, r, plan) else {
         return Next::Fails(Refusal::DiskFault);
     };
-    let row = OpenRow {
-        next: r.i + 1,
-        seq: r.i == opened.next,
-        ..opened
-    };
     gave.give(store, f, r.off, r.len);
-    store.put_file(r.p, r.fd as u8, Some(row));
+    store.read_on(r.p, r.fd as u8, r.i);
     Next::Goes
 }
 
@@ -123,7 +118,8 @@ fn reach<B: Policy>(store: &Store<B>, answer: Option<[u32; 4]>, opened: &OpenRow
 
 /// The second piece: the answer, or by default the policy, says what is to be read ahead.
 fn second<B: Policy>(store: &mut Store<B>, r: Access, opened: OpenRow) -> Next
-    requires file { HasDescriptor (queue_of store.old) r.p r.fd }
+    requires place { HasDescriptor (queue_of store.old) r.p r.fd }
+    requires file { (objects_of store.old).things.file r.p r.fd ≡ Some opened }
     requires opened { IsSoundFile (world_of_store store.old) opened }
     requires right { IfSome r.answer (λ a. (slice_index a 1 ≤ 8) ×
         (slice_index a 0 + slice_index a 1 ≤ blocks_of (world_of_store store.old) opened.file)) }
@@ -133,12 +129,7 @@ fn second<B: Policy>(store: &mut Store<B>, r: Access, opened: OpenRow) -> Next
         ReadContinues 1 2 (Some opened) ((objects_of store.new).things.file r.p r.fd) }
 {
     let ahead = reach(store, r.answer, &opened);
-    let row = OpenRow {
-        start: ahead.start,
-        count: ahead.count,
-        ..opened
-    };
-    store.put_file(r.p, r.fd as u8, Some(row));
+    store.set_ahead(r.p, r.fd as u8, ahead.start, ahead.count);
     if ahead.count == 0 {
         return Next::Ends(Reply::Plain);
     }
@@ -155,6 +146,7 @@ fn later<B: Policy, D: Disk>(
 ) -> Next
     requires ready { AccessReady (moment store.old (D.seen disk.old) log.old) r }
     requires right { NamesFrame store.old r.answer }
+    requires file { (objects_of store.old).things.file r.p r.fd ≡ Some opened }
     requires opened { IsSoundFile (world_of_store store.old) opened }
     requires some { 1 ≤ opened.count }
     ensures done { Serves (later_of store.old r opened)
@@ -167,13 +159,9 @@ fn later<B: Policy, D: Disk>(
     let Ok(_) = fetch_ahead(store, disk, log, r, plan) else {
         return Next::Fails(Refusal::DiskFault);
     };
-    let row = OpenRow {
-        start: opened.start + 1,
-        count: opened.count - 1,
-        ..opened
-    };
-    store.put_file(r.p, r.fd as u8, Some(row));
-    if row.count == 0 {
+    let count = opened.count - 1;
+    store.set_ahead(r.p, r.fd as u8, opened.start + 1, count);
+    if count == 0 {
         return Next::Ends(Reply::Plain);
     }
     Next::Goes

@@ -1,5 +1,5 @@
 -- What always holds of a store stays.
-use Rattle.std.proofs.Common.{◌≡◌, ℕ, ◌<◌, ◌≤◌, ◌==◌, ◌&&◌, Bool, true, false, cond, List, [], length, set, replicate, zero, suc, option_map, Option, Some, None, IfSome, refl, arith, sym, ◌∙◌, ap, subst, inl, inr}
+use Rattle.std.proofs.Common.{◌≡◌, ℕ, ◌<◌, ◌≤◌, ◌==◌, ◌&&◌, Bool, true, false, cond, List, [], length, set, replicate, zero, suc, option_map, Option, Some, None, IfSome, refl, arith, sym, ◌∙◌, ap, subst, inl, inr, ◌+◌}
 use Rattle.std.proofs.lemmas.Bool.{cases_eq}
 use Rattle.std.proofs.lemmas.List.{get_or-set_same, get_or-set_other}
 use Rattle.kernel_model.specs.declared.FrameRow.{FrameRow}
@@ -11,9 +11,9 @@ use Rattle.process_table.specs.Processes.{Table, Processes, processes_of, openin
 use Rattle.kernel_state.specs.CacheViews.{frame_bytes, value_with, frame_value, cache_value}
 use Rattle.kernel_state.specs.declared.Store.{Store}
 use Rattle.kernel_model.specs.declared.OpenRow.{OpenRow}
-use Rattle.kernel_model.specs.World.{World, file_row}
+use Rattle.kernel_model.specs.World.{World, file_row, blocks_of}
 use Rattle.kernel_model.specs.Objects.{Objects, Things, CacheValue, FrameValue, at}
-use Rattle.kernel_model.specs.FilePieces.{with_cache, with_file}
+use Rattle.kernel_model.specs.FilePieces.{with_cache, with_file, read_on, with_ahead}
 use Rattle.kernel_model.specs.Sound.{IsSoundFile}
 use Rattle.graft_accounts.specs.Table.{accounts_of}
 use Rattle.kernel_state.specs.Stores.{objects_of, objects_with, cache_of, policies_of}
@@ -52,6 +52,27 @@ fits_file count v s t p fd row h new is =
       files = λ q l o found. file_at v row (s.things.file q l) (q == p && l == fd) o new (h.files q l) found;
     } in
     subst (λ (x : Objects). StoreFits count v x.things) (sym is) after
+
+-- an open file that changes in place stays one of a usable file
+pub changed_sound : (v : World) (change : OpenRow → OpenRow) (row : Option OpenRow) → ((o : OpenRow) → row ≡ Some o → IsSoundFile v (change o))
+    → IfSome (option_map change row) (λ r. IsSoundFile v r)
+changed_sound v change None sound = tt
+changed_sound v change (Some o) sound = sound o refl
+
+-- it was read at a block
+pub read_on_sound : (v : World) (i : ℕ) (o : OpenRow) → IsSoundFile v o → IsSoundFile v (read_on i o)
+read_on_sound v i o h = record { usable = h.usable; count = h.count; within = h.within; window = h.window }
+
+-- something else is to be read ahead of it
+pub ahead_sound : (v : World) (start count : ℕ) (row : Option OpenRow) (o : OpenRow) → count ≤ 8 →
+    IfSome row (λ r. start + count ≤ blocks_of v r.file) → row ≡ Some o → IsSoundFile v o → IsSoundFile v (with_ahead start count o)
+ahead_sound v start count row o few within is h =
+    record {
+      usable = h.usable;
+      count = few;
+      within = subst (λ (x : Option OpenRow). IfSome x (λ r. start + count ≤ blocks_of v r.file)) is within;
+      window = h.window;
+    }
 
 -- the cache changes, and each frame's block lies on the disk
 pub fits_frames : (old new : ℕ) (v : World) (w u : Things) → StoreFits old v w → new ≡ old → u.file ≡ w.file

@@ -5,6 +5,8 @@ ghost use Rattle.kernel_model.specs.World.{file_named, blocks_of};
 ghost use Rattle.kernel_model.specs.Policies.{lives, ahead_default};
 ghost use Rattle.kernel_model.specs.Needs.{file_block, ahead_block, is_within};
 ghost use Rattle.kernel_model.specs.FilePieces.{with_file, free_descriptor as lowest_free, new_file};
+ghost use Rattle.kernel_model.specs.FilePieces.{read_on, with_ahead};
+ghost use Rattle.std.specs.Prelude.{option_map};
 ghost use Rattle.kernel_model.specs.Sound.{IsSoundFile};
 ghost use Rattle.kernel_state.specs.Changes.{Changes};
 ghost use Rattle.kernel_state.specs.Places.{HasDescriptor};
@@ -56,6 +58,32 @@ impl<B: Policy> Store<B> {
     {
         self.procs.rows();
         self.procs.put_file(p, fd, row);
+    }
+
+    /// The file that is open at descriptor fd of process p, which lives, was read at block i.
+    /// Nothing changes where no file is open.
+    pub fn read_on(&mut self, p: u8, fd: u8, i: u32)
+        requires place { HasDescriptor (queue_of self.old) p fd }
+        requires range { i < 4294967295 }
+        ensures { Changes (with_file p fd
+            (option_map (read_on i) ((objects_of self.old).things.file p fd))) self.old self.new }
+    {
+        self.procs.rows();
+        self.procs.read_on(p, fd, i);
+    }
+
+    /// Changes what is to be read ahead of the file that is open at descriptor fd of process p,
+    /// which lives: at most 8 blocks, within the file. Nothing changes where no file is open.
+    pub fn set_ahead(&mut self, p: u8, fd: u8, start: u32, count: u8)
+        requires place { HasDescriptor (queue_of self.old) p fd }
+        requires few { count ≤ 8 }
+        requires within { IfSome ((objects_of self.old).things.file p fd)
+            (λ o. start + count ≤ blocks_of (world_of_store self.old) o.file) }
+        ensures { Changes (with_file p fd (option_map (with_ahead start count)
+            ((objects_of self.old).things.file p fd))) self.old self.new }
+    {
+        self.procs.rows();
+        self.procs.set_ahead(p, fd, start, count);
     }
 
     /// The disk's block that is block i of the file at descriptor fd of process p, which lives.

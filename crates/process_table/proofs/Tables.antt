@@ -1,17 +1,19 @@
 -- Lemmas on the arrays: what always holds of them stays.
-use Rattle.std.proofs.Common.{◌≡◌, ◌≢◌, ℕ, ◌+◌, ◌*◌, ◌<◌, true, cond, Option, None, List, [], ◌∷◌, length, map, not, ◌==◌, nat_lt, get_or, set, refl, arith, ◌∙◌, IfSome}
+use Rattle.std.proofs.Common.{◌≡◌, ◌≢◌, ℕ, ◌+◌, ◌*◌, ◌<◌, true, cond, Option, None, List, [], ◌∷◌, length, map, not, ◌==◌, nat_lt, get_or, set, refl, arith, ◌∙◌, ap, IfSome}
 use Rattle.std.specs.List.{list_all}
 use Rattle.std.proofs.lemmas.Bool.Decides.{nat_tests}
 use Rattle.std.proofs.lemmas.Grind.{common_steps}
 use Rattle.std.proofs.lemmas.List.{get_or-set_same, get_or-set_other}
 use Rattle.std.proofs.Math.ListN.{length-set, get_or-map}
+use Rattle.std.proofs.Math.Path.{fun_ext}
 use Rattle.kernel_model.specs.declared.QueueRow.{QueueRow}
 use Rattle.kernel_model.specs.declared.OpenRow.{OpenRow}
 use Rattle.kernel_model.specs.Queue.{new_row, queue_without}
 use Rattle.kernel_model.specs.Policies.{lives}
 use Rattle.kernel_model.specs.Pieces.{freed_by}
+use Rattle.kernel_model.specs.Objects.{at2}
 use Rattle.kernel_model.specs.Handlers.{AreHandlers, handlers_without_process, handlers_pass}
-use Rattle.process_table.specs.Processes.{Table, IsTable, IsQueue, is_of}
+use Rattle.process_table.specs.Processes.{Table, IsTable, IsQueue, is_of, files_in}
 use Rattle.process_table.proofs.Handlers.{low_pass}
 use Rattle.process_table.proofs.Rows.{opening-queue, without-queue, living-without}
 
@@ -89,6 +91,17 @@ with_file t p fd row le lt lives h = record {
     processes = h.sound.processes;
   };
 }
+
+-- the row at a descriptor becomes what is made of it
+pub file_becomes : (files : List (Option OpenRow)) (p fd i : ℕ) (row : Option OpenRow) (change : Option OpenRow → Option OpenRow) → length files ≡ 64 → p < 16 → fd < 4 →
+    i ≡ 4 * p + fd → row ≡ change (get_or files i None)
+    → files_in (set files i row) ≡ at2 p fd (change (files_in files p fd)) (files_in files)
+file_becomes files p fd i row change long le lt place changed =
+    let there : get_or files i None ≡ files_in files p fd = grind (arith, nat_tests, place, lt) in
+    let same : row ≡ change (files_in files p fd) = changed ∙ ap change there in
+    fun_ext
+    (λ q. fun_ext
+    (λ l. grind (arith, nat_tests, long, place, same, get_or-set_other files i (4 * q + l) row None, get_or-set_same files i row None)))
 
 -- a lock changes, and a holder lives
 pub with_holder : (t : Table) (u : ℕ) (p : Option ℕ) → u < 16 → IfSome p (λ q. lives t.queue q ≡ true) → IsTable t

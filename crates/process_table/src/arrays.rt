@@ -4,12 +4,14 @@ ghost use Rattle.std.specs.Prelude.{◌≡◌, ℕ, ◌+◌, ◌*◌, ◌<◌, �
 ghost use Rattle.std.specs.Prelude.{length, map, filter, slice_index, slice_index_or, slice_set, remove, [], ◌∷◌, ◌++◌};
 ghost use Rattle.std.specs.Prelude.{IfSome, IfNone, None};
 ghost use Rattle.std.specs.List.{list_any};
+ghost use Rattle.std.specs.Prelude.{option_map};
 ghost use Rattle.kernel_model.specs.declared.QueueRow.{QueueRow as Row};
 ghost use Rattle.kernel_model.specs.Queue.{IsLeastFree, new_row, queue_without, one_more_slice};
 ghost use Rattle.kernel_model.specs.Policies.{lives};
 ghost use Rattle.kernel_model.specs.Needs.{free_process};
 ghost use Rattle.kernel_model.specs.Pieces.{to_back as queue_to_back, add_slice as queue_with_slice, freed_by};
 ghost use Rattle.kernel_model.specs.Access.{with_nice};
+ghost use Rattle.kernel_model.specs.FilePieces.{read_on, with_ahead};
 ghost use Rattle.kernel_model.specs.Handlers.{is_handler, handlers_at, handlers_without};
 ghost use Rattle.kernel_model.specs.Handlers.{handlers_without_process, has_room};
 ghost use Rattle.process_table.specs.Processes.{is_of};
@@ -228,6 +230,27 @@ pub(crate) fn close_files(files: &mut [Option<OpenRow>], p: u8)
 {
     for fd in 0..EACH {
         files[EACH * p as usize + fd] = None;
+    }
+}
+
+/// An open file was read at block i.
+pub(crate) fn row_read_on(row: &mut Option<OpenRow>, i: u32)
+    requires { i < 4294967295 }
+    ensures { row.new ≡ option_map (read_on i) row.old }
+{
+    if let Some(opened) = row {
+        opened.seq = i == opened.next;
+        opened.next = i + 1;
+    }
+}
+
+/// Changes what is to be read ahead of an open file.
+pub(crate) fn row_with_ahead(row: &mut Option<OpenRow>, start: u32, count: u8)
+    ensures { row.new ≡ option_map (with_ahead start count) row.old }
+{
+    if let Some(opened) = row {
+        opened.start = start;
+        opened.count = count;
     }
 }
 

@@ -8,10 +8,12 @@ ghost use Rattle.kernel_model.specs.Pieces.{to_back as queue_to_back, add_slice 
 ghost use Rattle.kernel_model.specs.Access.{with_nice};
 ghost use Rattle.kernel_model.specs.Handlers.{has_room, handlers_with, handlers_without};
 ghost use Rattle.kernel_model.specs.Objects.{at, at2};
+ghost use Rattle.kernel_model.specs.FilePieces.{read_on, with_ahead};
+ghost use Rattle.std.specs.Prelude.{option_map};
 
 use crate::arrays::{
     EACH, HANDLERS, LOCKS, NUMBERS, clear_cells, close_files, closed_files, fits, free_holders,
-    free_locks, put_last, remove_handler, remove_handlers, zero_cells,
+    free_locks, put_last, remove_handler, remove_handlers, row_read_on, row_with_ahead, zero_cells,
 };
 use crate::queue::Queue;
 use arrayvec::ArrayVec;
@@ -191,6 +193,33 @@ impl Procs {
             ≡ record (processes_of self.old) { file = at2 p fd row (processes_of self.old).file } }
     {
         self.files[place(p, fd)] = row;
+    }
+
+    /// The file that is open at descriptor fd of process p was read at block i. Nothing changes
+    /// where no file is open.
+    pub fn read_on(&mut self, p: u8, fd: u8, i: u32)
+        requires process { p < 16 }
+        requires number { fd < 4 }
+        requires range { i < 4294967295 }
+        ensures { processes_of self.new ≡ record (processes_of self.old) {
+          file = at2 p fd (option_map (read_on i) ((processes_of self.old).file p fd))
+              (processes_of self.old).file;
+        } }
+    {
+        row_read_on(&mut self.files[place(p, fd)], i);
+    }
+
+    /// Changes what is to be read ahead of the file that is open at descriptor fd of process p.
+    /// Nothing changes where no file is open.
+    pub fn set_ahead(&mut self, p: u8, fd: u8, start: u32, count: u8)
+        requires process { p < 16 }
+        requires number { fd < 4 }
+        ensures { processes_of self.new ≡ record (processes_of self.old) {
+          file = at2 p fd (option_map (with_ahead start count)
+              ((processes_of self.old).file p fd)) (processes_of self.old).file;
+        } }
+    {
+        row_with_ahead(&mut self.files[place(p, fd)], start, count);
     }
 
     /// The process that holds user lock u.

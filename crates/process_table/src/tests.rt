@@ -130,6 +130,25 @@ fn keeps_files_and_locks(rt: HostRuntime) {
 }
 
 #[test]
+fn notes_reads_in_place(rt: HostRuntime) {
+    let mut procs = Procs::new();
+    assert!(rt; procs.living(0));
+    procs.put_file(0, 3, Some(FILE));
+    procs.read_on(0, 3, 1);
+    procs.set_ahead(0, 3, 4294967295, 1);
+    procs.read_on(0, 2, 1);
+    procs.set_ahead(0, 2, 5, 6);
+    let found = procs
+        .file(0, 3)
+        .map(|o| (o.file, o.next, o.window, o.start, o.count));
+    assert_eq!(rt; found, Some((2, 2, 8, 4294967295, 1)));
+    assert_eq!(rt; procs.file(0, 3).map(|o| o.seq), Some(true));
+    assert!(rt; procs.file(0, 2).is_none());
+    procs.read_on(0, 3, 0);
+    assert_eq!(rt; procs.file(0, 3).map(|o| (o.next, o.seq)), Some((1, false)));
+}
+
+#[test]
 fn puts_handlers_last(rt: HostRuntime) {
     let mut procs = Procs::new();
     for q in 0..8 {

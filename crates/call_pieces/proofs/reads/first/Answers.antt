@@ -1,30 +1,16 @@
-use Rattle.std.proofs.Common.{rules, ℕ, ◌++◌, length, ap, sym, refl, Option, Some, Result, Ok, Err, ◌≡◌, ◌∙◌, subst}
+use Rattle.std.proofs.Common.{rules, ℕ, ◌++◌, length, ap, sym, refl, Option, Some, Result, Ok, Err, ◌≡◌, ◌∙◌}
 use Rattle.kernel_model.specs.declared.OpenRow.{OpenRow}
 use Rattle.kernel_model.specs.declared.Refusal.{Refusal}
 use Rattle.kernel_model.specs.FilePieces.{read_first_at, read_first, read_on}
 use Rattle.kernel_model.specs.World.{World}
 use Rattle.kernel_model.specs.Needs.{file_block}
-use Rattle.kernel_model.specs.Sound.{IsSoundFile}
 use Rattle.kernel_state.specs.Stores.{world_of_store, objects_of, cache_of}
 use Rattle.call_needs.specs.Fetching.{fetch_of}
 use Rattle.call_pieces.specs.Shared.{first_of, read_stage}
-use Rattle.call_pieces.proofs.ReadLaws.{first_block, first_came, file_here, goes_first}
+use Rattle.call_pieces.proofs.ReadLaws.{first_block, first_came, file_here, file_after, changed_file, goes_first}
 use Rattle.call_pieces.proofs.ServesLaws.{serves_refused}
 use Rattle.call_pieces.proofs.WriteLaws.{fetch_failed}
 use Rattle.call_pieces.proofs.reads.first.Goals as goal
-
-pub put_file-requires-clause-file : goal.put_file-requires-clause-file
-put_file-requires-clause-file g c =
-    let r = c.args.r in
-    let sound = c.args.store.now.fits.files r.p r.fd c.args.opened c.requires.file in
-    subst (λ (v : World). IsSoundFile v (read_on r.i c.args.opened))
-    (sym c.in-Ok-fetch.ensures.keeps.world)
-    (record {
-      usable = sound.usable;
-      count = sound.count;
-      within = sound.within;
-      window = sound.window;
-    })
 
 pub returns-in-Err-clause-done : goal.returns-in-Err-clause-done
 returns-in-Err-clause-done g c =
@@ -85,16 +71,21 @@ returns-clause-done g c =
     c.in-Ok.ensures.block
     ∙ ap (λ (x : Option OpenRow). file_block v x r.i r.off r.len) c.requires.file in
     let fetched = c.in-Ok-fetch.ensures in
+    let noted = changed_file (objects_of c.fetch.new.store) (objects_of c.read_on.new.self) r.p r.fd
+    (read_on r.i) c.args.opened
+    (file_after o (objects_of c.fetch.new.store) r.p r.fd (cache_of c.fetch.new.store) c.args.opened
+    fetched.keeps.objects c.requires.file)
+    c.read_on.ensures.objects in
     record {
       does = λ blocks rest tells.
           let io = c.fetch.new.log ++ rest in
           first_block (file_block v (Some c.args.opened) r.i r.off r.len) b v o
-          (objects_of c.put_file.new.self) blocks r.p r.fd r.i r.off r.len n c.args.opened r.answer io
+          (objects_of c.read_on.new.self) blocks r.p r.fd r.i r.off r.len n c.args.opened r.answer io
           known _ _ block
-          (first_came o (objects_of c.fetch.new.store) (objects_of c.put_file.new.self) blocks r.p
+          (first_came o (objects_of c.fetch.new.store) (objects_of c.read_on.new.self) blocks r.p
           r.fd r.i r.off r.len c.in-Ok-fetch.f n c.args.opened (fetch_of s r.p b r.answer blocks io)
           (cache_of c.fetch.new.store) known _ (fetched.does blocks rest tells)
-          fetched.keeps.objects c.put_file.ensures.objects refl);
+          fetched.keeps.objects noted refl);
       some = search rules;
       keeps = search rules;
       calls = fetched.calls;
@@ -103,5 +94,11 @@ returns-clause-done g c =
 pub returns-clause-next : goal.returns-clause-next
 returns-clause-next g c =
     λ _.
-    goes_first c.args.opened _ _ (file_here (objects_of c.fetch.new.store)
-    (objects_of c.put_file.new.self) c.args.r.p c.args.r.fd _ c.put_file.ensures.objects)
+    let r = c.args.r in
+    let mid = objects_of c.fetch.new.store in
+    goes_first c.args.opened _ _
+    (file_here mid (objects_of c.read_on.new.self) r.p r.fd _
+    (changed_file mid (objects_of c.read_on.new.self) r.p r.fd (read_on r.i) c.args.opened
+    (file_after (objects_of c.args.store.now) mid r.p r.fd (cache_of c.fetch.new.store) c.args.opened
+    c.in-Ok-fetch.ensures.keeps.objects c.requires.file)
+    c.read_on.ensures.objects))

@@ -1,10 +1,19 @@
-use Rattle.kernel_state.specs.Stores.{objects_of}
-use Rattle.call_pieces.proofs.ReadLaws.{file_here, goes_second}
+use Rattle.std.proofs.Common.{Some, IfSome}
+use Rattle.kernel_model.specs.FilePieces.{with_ahead}
+use Rattle.kernel_model.specs.World.{blocks_of}
+use Rattle.kernel_state.specs.Stores.{objects_of, world_of_store}
+use Rattle.call_pieces.proofs.ReadLaws.{file_here, changed_file, goes_second}
 use Rattle.call_pieces.proofs.reads.second.Goals as goal
 
 pub returns-clause-next : goal.returns-clause-next
 returns-clause-next g c =
     λ _.
-    goes_second c.args.opened _ _ (file_here (objects_of c.args.store.now)
-    (objects_of c.put_file.new.self) c.args.r.p c.args.r.fd _ c.put_file.ensures.objects)
+    let r = c.args.r in
+    let s = objects_of c.args.store.now in
+    let t = objects_of c.set_ahead.new.self in
+    let ahead = c.reach-ahead.result in
+    goes_second c.args.opened _ _
+    (file_here s t r.p r.fd _
+    (changed_file s t r.p r.fd (with_ahead ahead.start ahead.count) c.args.opened c.requires.file
+    c.set_ahead.ensures.objects))
     c.if-ahead-eq0.false c.reach-ahead.ensures.sound.count
