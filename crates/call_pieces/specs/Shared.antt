@@ -8,7 +8,8 @@ use Rattle.kernel_model.specs.World.{World, Blocks}
 use Rattle.kernel_model.specs.Objects.{Objects}
 use Rattle.kernel_model.specs.Meaning.{Stage, Piece, stage}
 use Rattle.kernel_model.specs.Policies.{lives, ahead_default}
-use Rattle.kernel_model.specs.Needs.{file_block, ahead_block}
+use Rattle.kernel_model.specs.Laws.{IsRightAnswer}
+use Rattle.kernel_model.specs.Needs.{file_block, ahead_block, piece_ask}
 use Rattle.kernel_model.specs.Pieces.{piece_of}
 use Rattle.kernel_model.specs.FilePieces.{read_piece, read_first_at, read_second, read_third_at}
 use Rattle.kernel_model.specs.FilePieces.{ahead_by, write_piece, sync_from}
@@ -17,7 +18,7 @@ use Rattle.kernel_state.specs.declared.Store.{Store}
 use Rattle.kernel_state.specs.Stores.{world_of_store, objects_of, queue_of, policies_of, SegmentsStay}
 use Rattle.call_needs.specs.declared.Access.{Access}
 use Rattle.call_needs.specs.declared.Work.{Work}
-use Rattle.call_needs.specs.Works.{call_of}
+use Rattle.call_needs.specs.Works.{call_of, stage_of, IsPlainDue}
 use Rattle.call_needs.specs.Needing.{block_meant}
 use Rattle.call_needs.specs.Fetching.{Moment, has_failed}
 use Rattle.call_pieces.specs.declared.Next.{Next}
@@ -82,6 +83,15 @@ CameBySome v piece s gave result t log = PieceMatchesSome v piece s gave (comes_
 pub record DiskReady {B : Type 0} {P : _} (m : Moment (Store B P)) : Type 0 where
   pub disk : m.store.size ≡ m.disk.size
   pub fresh : m.log ≡ []
+
+-- The next piece of this work may be done, with this answer, or by default: it is due, the answer is
+-- one that its point accepts, and the piece may call the disk.
+pub record PieceReady {B : Type 0} {P : _} (work : Work) (answer : Option (List ℕ))
+    (m : Moment (Store B P)) : Type 0 where
+  pub due : IsPlainDue (world_of_store m.store) (objects_of m.store) work.caller (stage_of work)
+  pub right : IsRightAnswer (objects_of m.store) (piece_ask (call_of work) work.piece
+      (world_of_store m.store) (objects_of m.store).things work.caller) answer
+  pub disk : DiskReady m
 
 -- a piece fails for the disk only where a call of it failed; the queue is this, and the world and
 -- the segments of grafts stay

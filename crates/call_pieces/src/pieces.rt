@@ -7,7 +7,7 @@ ghost use Rattle.disk_log.specs.Calls.{Made};
 ghost use Rattle.kernel_state.specs.Stores.{world_of_store, objects_of};
 ghost use Rattle.call_needs.specs.Fetching.{moment};
 ghost use Rattle.call_needs.specs.Works.{bare_stage_of, call_of, stage_of, IsPlainDue};
-ghost use Rattle.call_pieces.specs.Shared.{DiskReady, ServesWithQueue, piece_on, queue_on};
+ghost use Rattle.call_pieces.specs.Shared.{DiskReady, PieceReady, ServesWithQueue, piece_on, queue_on};
 ghost use Rattle.call_pieces.specs.Matching.{HasContinued, goes_on, is_frequent, is_read};
 
 use crate::Next;
@@ -67,12 +67,7 @@ fn bare_piece<B: Policy, D: Disk>(
     log: &mut DiskLog,
     gave: &mut Gift,
 ) -> Next
-    requires ready { IsPlainDue (world_of_store store.old) (objects_of store.old) work.old.caller
-        (stage_of work.old) }
-    requires right { IsRightAnswer (objects_of store.old)
-        (piece_ask (call_of work.old) work.old.piece (world_of_store store.old)
-        (objects_of store.old).things work.old.caller) answer }
-    requires disk { DiskReady (moment store.old (D.seen disk.old) log.old) }
+    requires can { PieceReady work.old answer (moment store.old (D.seen disk.old) log.old) }
     ensures done { ServesWithQueue (piece_on work.old store.old answer)
         (queue_on work.old store.old answer) (moment store.old (D.seen disk.old) log.old)
         (moment store.new (D.seen disk.new) log.new) gave.new result (bare_stage_of work.new) }
@@ -109,12 +104,7 @@ fn read_file<B: Policy, D: Disk>(
     log: &mut DiskLog,
     gave: &mut Gift,
 ) -> Next
-    requires ready { IsPlainDue (world_of_store store.old) (objects_of store.old) work.old.caller
-        (stage_of work.old) }
-    requires right { IsRightAnswer (objects_of store.old)
-        (piece_ask (call_of work.old) work.old.piece (world_of_store store.old)
-        (objects_of store.old).things work.old.caller) answer }
-    requires disk { DiskReady (moment store.old (D.seen disk.old) log.old) }
+    requires can { PieceReady work.old answer (moment store.old (D.seen disk.old) log.old) }
     requires nothing { gave.old ≡ None }
     requires kind { is_read work.old.call ≡ true }
     ensures done { ServesWithQueue (piece_on work.old store.old answer)
@@ -148,12 +138,7 @@ fn rarer_piece<B: Policy, D: Disk>(
     log: &mut DiskLog,
     gave: &mut Gift,
 ) -> Next
-    requires ready { IsPlainDue (world_of_store store.old) (objects_of store.old) work.old.caller
-        (stage_of work.old) }
-    requires right { IsRightAnswer (objects_of store.old)
-        (piece_ask (call_of work.old) work.old.piece (world_of_store store.old)
-        (objects_of store.old).things work.old.caller) answer }
-    requires disk { DiskReady (moment store.old (D.seen disk.old) log.old) }
+    requires can { PieceReady work.old answer (moment store.old (D.seen disk.old) log.old) }
     requires nothing { gave.old ≡ None }
     requires rarer { is_frequent work.old.call ≡ false }
     ensures done { ServesWithQueue (piece_on work.old store.old answer)

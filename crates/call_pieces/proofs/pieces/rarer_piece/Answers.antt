@@ -17,8 +17,8 @@ pub exit-requires : goal.exit-requires
 exit-requires g c =
     record {
       lives = search rules;
-      child = exit_granted c.requires.ready.top (world_of_store c.args.store.now) c.args.work.now.caller
-          (call_of c.args.work.now) (c.requires.ready.due.images, c.requires.ready.due.granted)
+      child = exit_granted c.requires.can.due.top (world_of_store c.args.store.now) c.args.work.now.caller
+          (call_of c.args.work.now) (c.requires.can.due.due.images, c.requires.can.due.due.granted)
           (named c.args.work.now _ c.in-Exit.is);
     }
 
@@ -26,52 +26,52 @@ pub close-requires : goal.close-requires
 close-requires g c =
     record {
       lives = search rules;
-      number = close_granted c.requires.ready.top (world_of_store c.args.store.now) c.args.work.now.caller
-          (call_of c.args.work.now) c.in-CloseFd.fd (c.requires.ready.due.images, c.requires.ready.due.granted)
+      number = close_granted c.requires.can.due.top (world_of_store c.args.store.now) c.args.work.now.caller
+          (call_of c.args.work.now) c.in-CloseFd.fd (c.requires.can.due.due.images, c.requires.can.due.due.granted)
           (named c.args.work.now _ c.in-CloseFd.is);
     }
 
 pub write-requires-clause-ready : goal.write-requires-clause-ready
 write-requires-clause-ready g c =
-    let due = c.requires.ready.due in
+    let due = c.requires.can.due.due in
     let x = c.in-Write in
-    let granted = write_granted c.requires.ready.top (world_of_store c.args.store.now)
+    let granted = write_granted c.requires.can.due.top (world_of_store c.args.store.now)
     c.args.work.now.caller (call_of c.args.work.now) x.fd x.i x.off c.args.work.now.bytes.items
     (due.images, due.granted) (named c.args.work.now _ x.is) in
     record {
       alive = search rules;
       descriptor = granted.0;
       inside = rw c.as_slice-bytes.ensures.value granted.1;
-      disk = c.requires.disk.disk;
-      fresh = c.requires.disk.fresh;
+      disk = c.requires.can.disk.disk;
+      fresh = c.requires.can.disk.fresh;
     }
 
 pub tune-requires : goal.tune-requires
 tune-requires g c =
     record {
-      granted = tune_granted c.requires.ready.top (world_of_store c.args.store.now) c.args.work.now.caller
-          (call_of c.args.work.now) c.in-Tune.kind c.in-Tune.k c.in-Tune.v (c.requires.ready.due.images, c.requires.ready.due.granted)
+      granted = tune_granted c.requires.can.due.top (world_of_store c.args.store.now) c.args.work.now.caller
+          (call_of c.args.work.now) c.in-Tune.kind c.in-Tune.k c.in-Tune.v (c.requires.can.due.due.images, c.requires.can.due.due.granted)
           (named c.args.work.now _ c.in-Tune.is);
     }
 
 pub choose-requires-clause-kind : goal.choose-requires-clause-kind
 choose-requires-clause-kind g c =
-    (choose_granted c.requires.ready.top (world_of_store c.args.store.now) c.args.work.now.caller
-    (call_of c.args.work.now) c.in-Choose.kind c.in-Choose.j (c.requires.ready.due.images, c.requires.ready.due.granted)
+    (choose_granted c.requires.can.due.top (world_of_store c.args.store.now) c.args.work.now.caller
+    (call_of c.args.work.now) c.in-Choose.kind c.in-Choose.j (c.requires.can.due.due.images, c.requires.can.due.due.granted)
     (named c.args.work.now _ c.in-Choose.is)).0
 
 pub choose-requires-clause-granted : goal.choose-requires-clause-granted
 choose-requires-clause-granted g c =
-    (choose_granted c.requires.ready.top (world_of_store c.args.store.now) c.args.work.now.caller
-    (call_of c.args.work.now) c.in-Choose.kind c.in-Choose.j (c.requires.ready.due.images, c.requires.ready.due.granted)
+    (choose_granted c.requires.can.due.top (world_of_store c.args.store.now) c.args.work.now.caller
+    (call_of c.args.work.now) c.in-Choose.kind c.in-Choose.j (c.requires.can.due.due.images, c.requires.can.due.due.granted)
     (named c.args.work.now _ c.in-Choose.is)).1
 
 pub give-requires : goal.give-requires
 give-requires g c =
     record {
       lives = search rules;
-      receiver = give_granted c.requires.ready.top (world_of_store c.args.store.now) c.args.work.now.caller
-          (call_of c.args.work.now) c.in-Give.q c.in-Give.kind c.in-Give.n (c.requires.ready.due.images, c.requires.ready.due.granted)
+      receiver = give_granted c.requires.can.due.top (world_of_store c.args.store.now) c.args.work.now.caller
+          (call_of c.args.work.now) c.in-Give.q c.in-Give.kind c.in-Give.n (c.requires.can.due.due.images, c.requires.can.due.due.granted)
           (named c.args.work.now _ c.in-Give.is);
     }
 
@@ -79,27 +79,27 @@ pub install-requires-clause-place : goal.install-requires-clause-place
 install-requires-clause-place g c =
     record {
       lives = search rules;
-      point = (install_granted c.requires.ready.top (world_of_store c.args.store.now) c.args.work.now.caller
-          (call_of c.args.work.now) c.in-Install.pt c.in-Install.image c.in-Install.limit c.requires.ready.few (c.requires.ready.due.images, c.requires.ready.due.granted)
+      point = (install_granted c.requires.can.due.top (world_of_store c.args.store.now) c.args.work.now.caller
+          (call_of c.args.work.now) c.in-Install.pt c.in-Install.image c.in-Install.limit c.requires.can.due.few (c.requires.can.due.due.images, c.requires.can.due.due.granted)
           (named c.args.work.now _ c.in-Install.is)).point;
     }
 
 pub install-requires-clause-image : goal.install-requires-clause-image
 install-requires-clause-image g c =
-    (install_granted c.requires.ready.top (world_of_store c.args.store.now) c.args.work.now.caller
-    (call_of c.args.work.now) c.in-Install.pt c.in-Install.image c.in-Install.limit c.requires.ready.few (c.requires.ready.due.images, c.requires.ready.due.granted)
+    (install_granted c.requires.can.due.top (world_of_store c.args.store.now) c.args.work.now.caller
+    (call_of c.args.work.now) c.in-Install.pt c.in-Install.image c.in-Install.limit c.requires.can.due.few (c.requires.can.due.due.images, c.requires.can.due.due.granted)
     (named c.args.work.now _ c.in-Install.is)).number
 
 pub install-requires-clause-some : goal.install-requires-clause-some
 install-requires-clause-some g c =
-    (install_granted c.requires.ready.top (world_of_store c.args.store.now) c.args.work.now.caller
-    (call_of c.args.work.now) c.in-Install.pt c.in-Install.image c.in-Install.limit c.requires.ready.few (c.requires.ready.due.images, c.requires.ready.due.granted)
+    (install_granted c.requires.can.due.top (world_of_store c.args.store.now) c.args.work.now.caller
+    (call_of c.args.work.now) c.in-Install.pt c.in-Install.image c.in-Install.limit c.requires.can.due.few (c.requires.can.due.due.images, c.requires.can.due.due.granted)
     (named c.args.work.now _ c.in-Install.is)).some
 
 pub install-requires-clause-most : goal.install-requires-clause-most
 install-requires-clause-most g c =
-    (install_granted c.requires.ready.top (world_of_store c.args.store.now) c.args.work.now.caller
-    (call_of c.args.work.now) c.in-Install.pt c.in-Install.image c.in-Install.limit c.requires.ready.few (c.requires.ready.due.images, c.requires.ready.due.granted)
+    (install_granted c.requires.can.due.top (world_of_store c.args.store.now) c.args.work.now.caller
+    (call_of c.args.work.now) c.in-Install.pt c.in-Install.image c.in-Install.limit c.requires.can.due.few (c.requires.can.due.due.images, c.requires.can.due.due.granted)
     (named c.args.work.now _ c.in-Install.is)).most
 
 pub remove-requires : goal.remove-requires
@@ -107,8 +107,8 @@ remove-requires g c =
     record {
       place = record {
         lives = search rules;
-        point = remove_granted c.requires.ready.top (world_of_store c.args.store.now) c.args.work.now.caller
-            (call_of c.args.work.now) c.in-Remove.pt c.requires.ready.few (c.requires.ready.due.images, c.requires.ready.due.granted)
+        point = remove_granted c.requires.can.due.top (world_of_store c.args.store.now) c.args.work.now.caller
+            (call_of c.args.work.now) c.in-Remove.pt c.requires.can.due.few (c.requires.can.due.due.images, c.requires.can.due.due.granted)
             (named c.args.work.now _ c.in-Remove.is);
       };
     }
@@ -118,8 +118,8 @@ fund-requires g c =
     record {
       place = record {
         lives = search rules;
-        point = fund_granted c.requires.ready.top (world_of_store c.args.store.now) c.args.work.now.caller
-            (call_of c.args.work.now) c.in-Fund.pt c.in-Fund.kind c.in-Fund.n c.requires.ready.few (c.requires.ready.due.images, c.requires.ready.due.granted)
+        point = fund_granted c.requires.can.due.top (world_of_store c.args.store.now) c.args.work.now.caller
+            (call_of c.args.work.now) c.in-Fund.pt c.in-Fund.kind c.in-Fund.n c.requires.can.due.few (c.requires.can.due.due.images, c.requires.can.due.due.granted)
             (named c.args.work.now _ c.in-Fund.is);
       };
     }
@@ -129,8 +129,8 @@ bill-requires g c =
     record {
       place = record {
         lives = search rules;
-        point = bill_granted c.requires.ready.top (world_of_store c.args.store.now) c.args.work.now.caller
-            (call_of c.args.work.now) c.in-Bill.pt c.requires.ready.few (c.requires.ready.due.images, c.requires.ready.due.granted)
+        point = bill_granted c.requires.can.due.top (world_of_store c.args.store.now) c.args.work.now.caller
+            (call_of c.args.work.now) c.in-Bill.pt c.requires.can.due.few (c.requires.can.due.due.images, c.requires.can.due.due.granted)
             (named c.args.work.now _ c.in-Bill.is);
       };
     }
@@ -142,7 +142,7 @@ returns-in-Spawn-clause-done g c =
     rw c.requires.nothing
     (ends_by_name c.args.work.now c.args.answer c.args.store.now c.spawn.new.store
     (g.D.Disk.seen c.args.disk.now) c.args.log.now c.spawn.result Spawn _
-    (named c.args.work.now _ c.in-Spawn.is) c.requires.disk.fresh (λ blocks io. refl)
+    (named c.args.work.now _ c.in-Spawn.is) c.requires.can.disk.fresh (λ blocks io. refl)
     c.spawn.ensures.done)
 
 pub returns-in-Exit-clause-done : goal.returns-in-Exit-clause-done
@@ -150,7 +150,7 @@ returns-in-Exit-clause-done g c =
     rw c.requires.nothing
     (ends_by_name c.args.work.now c.args.answer c.args.store.now c.exit.new.store
     (g.D.Disk.seen c.args.disk.now) c.args.log.now c.exit.result Exit _
-    (named c.args.work.now _ c.in-Exit.is) c.requires.disk.fresh (λ blocks io. refl)
+    (named c.args.work.now _ c.in-Exit.is) c.requires.can.disk.fresh (λ blocks io. refl)
     c.exit.ensures.done)
 
 pub returns-in-OpenName-clause-done : goal.returns-in-OpenName-clause-done
@@ -158,7 +158,7 @@ returns-in-OpenName-clause-done g c =
     rw c.requires.nothing
     (ends_by_name c.args.work.now c.args.answer c.args.store.now c.open.new.store
     (g.D.Disk.seen c.args.disk.now) c.args.log.now c.open.result (OpenName c.args.work.now.bytes.items) _
-    (named c.args.work.now _ c.in-OpenName.is) c.requires.disk.fresh (λ blocks io. refl)
+    (named c.args.work.now _ c.in-OpenName.is) c.requires.can.disk.fresh (λ blocks io. refl)
     (let s = c.args.store.now in
     let o = objects_of s in
     let p = c.args.work.now.caller in
@@ -171,7 +171,7 @@ returns-in-CloseFd-clause-done g c =
     rw c.requires.nothing
     (ends_by_name c.args.work.now c.args.answer c.args.store.now c.close.new.store
     (g.D.Disk.seen c.args.disk.now) c.args.log.now c.close.result (CloseFd c.in-CloseFd.fd) _
-    (named c.args.work.now _ c.in-CloseFd.is) c.requires.disk.fresh (λ blocks io. refl)
+    (named c.args.work.now _ c.in-CloseFd.is) c.requires.can.disk.fresh (λ blocks io. refl)
     c.close.ensures.done)
 
 pub returns-in-Write-clause-done : goal.returns-in-Write-clause-done
@@ -207,7 +207,7 @@ returns-in-Tune-clause-done g c =
     rw c.requires.nothing
     (ends_by_name c.args.work.now c.args.answer c.args.store.now c.tune.new.store
     (g.D.Disk.seen c.args.disk.now) c.args.log.now c.tune.result (Tune c.in-Tune.kind c.in-Tune.k c.in-Tune.v) _
-    (named c.args.work.now _ c.in-Tune.is) c.requires.disk.fresh (λ blocks io. refl)
+    (named c.args.work.now _ c.in-Tune.is) c.requires.can.disk.fresh (λ blocks io. refl)
     c.tune.ensures.done)
 
 pub returns-in-Choose-clause-done : goal.returns-in-Choose-clause-done
@@ -215,7 +215,7 @@ returns-in-Choose-clause-done g c =
     rw c.requires.nothing
     (ends_by_name c.args.work.now c.args.answer c.args.store.now c.choose.new.store
     (g.D.Disk.seen c.args.disk.now) c.args.log.now c.choose.result (Choose c.in-Choose.kind c.in-Choose.j) _
-    (named c.args.work.now _ c.in-Choose.is) c.requires.disk.fresh (λ blocks io. refl)
+    (named c.args.work.now _ c.in-Choose.is) c.requires.can.disk.fresh (λ blocks io. refl)
     c.choose.ensures.done)
 
 pub returns-in-Give-clause-done : goal.returns-in-Give-clause-done
@@ -223,7 +223,7 @@ returns-in-Give-clause-done g c =
     rw c.requires.nothing
     (ends_by_name c.args.work.now c.args.answer c.args.store.now c.give.new.store
     (g.D.Disk.seen c.args.disk.now) c.args.log.now c.give.result (Give c.in-Give.q c.in-Give.kind c.in-Give.n) _
-    (named c.args.work.now _ c.in-Give.is) c.requires.disk.fresh (λ blocks io. refl)
+    (named c.args.work.now _ c.in-Give.is) c.requires.can.disk.fresh (λ blocks io. refl)
     c.give.ensures.done)
 
 pub returns-in-Install-clause-done : goal.returns-in-Install-clause-done
@@ -231,7 +231,7 @@ returns-in-Install-clause-done g c =
     rw c.requires.nothing
     (ends_by_name c.args.work.now c.args.answer c.args.store.now c.install.new.store
     (g.D.Disk.seen c.args.disk.now) c.args.log.now c.install.result (Install c.in-Install.pt c.in-Install.image c.in-Install.limit) _
-    (named c.args.work.now _ c.in-Install.is) c.requires.disk.fresh (λ blocks io. refl)
+    (named c.args.work.now _ c.in-Install.is) c.requires.can.disk.fresh (λ blocks io. refl)
     c.install.ensures.done)
 
 pub returns-in-Remove-clause-done : goal.returns-in-Remove-clause-done
@@ -239,7 +239,7 @@ returns-in-Remove-clause-done g c =
     rw c.requires.nothing
     (ends_by_name c.args.work.now c.args.answer c.args.store.now c.remove.new.store
     (g.D.Disk.seen c.args.disk.now) c.args.log.now c.remove.result (Remove c.in-Remove.pt) _
-    (named c.args.work.now _ c.in-Remove.is) c.requires.disk.fresh (λ blocks io. refl)
+    (named c.args.work.now _ c.in-Remove.is) c.requires.can.disk.fresh (λ blocks io. refl)
     c.remove.ensures.done)
 
 pub returns-in-Fund-clause-done : goal.returns-in-Fund-clause-done
@@ -247,7 +247,7 @@ returns-in-Fund-clause-done g c =
     rw c.requires.nothing
     (ends_by_name c.args.work.now c.args.answer c.args.store.now c.fund.new.store
     (g.D.Disk.seen c.args.disk.now) c.args.log.now c.fund.result (Fund c.in-Fund.pt c.in-Fund.kind c.in-Fund.n) _
-    (named c.args.work.now _ c.in-Fund.is) c.requires.disk.fresh (λ blocks io. refl)
+    (named c.args.work.now _ c.in-Fund.is) c.requires.can.disk.fresh (λ blocks io. refl)
     c.fund.ensures.done)
 
 pub returns-in-Bill-clause-done : goal.returns-in-Bill-clause-done
@@ -255,5 +255,5 @@ returns-in-Bill-clause-done g c =
     rw c.requires.nothing
     (ends_by_name c.args.work.now c.args.answer c.args.store.now c.bill.new.store
     (g.D.Disk.seen c.args.disk.now) c.args.log.now c.bill.result (Bill c.in-Bill.pt) _
-    (named c.args.work.now _ c.in-Bill.is) c.requires.disk.fresh (λ blocks io. refl)
+    (named c.args.work.now _ c.in-Bill.is) c.requires.can.disk.fresh (λ blocks io. refl)
     c.bill.ensures.done)
