@@ -1,3 +1,3 @@
 pub mod Orders
 pub mod Rows
-pub mod Probes
+pub mod Finding

@@ -8,7 +8,7 @@ use Rattle.std.proofs.lemmas.List.{get_or-set_same, get_or-set_other, get_or_pas
 use Rattle.std.proofs.lemmas.List.Sums.{sum_by-set, sum_by-cons, count_by-le-length}
 use Rattle.kernel_model.specs.declared.FrameRow.{FrameRow}
 use Rattle.buffer_cache.specs.Frames.{Frames, row_at, in_use, holds, newest, exchanged, filled, touched, swapped, handed, handed_over, uses, IsFrames}
-use Rattle.buffer_cache.specs.BlockIndex.{IsReached, IsIndex, HasRoom}
+use Rattle.buffer_cache.specs.BlockIndex.{IsIndex}
 use Rattle.buffer_cache.proofs.Orders.{uses-newest, length-newest, uses-exchanged, exchanged-first, exchanged-second, exchanged-neither, length-without, uses-at}
 
 -- how many frames are in use
@@ -57,14 +57,17 @@ IsFrames-same c rows h len count same =
     }
 
 -- the index of rows of the same frames and blocks
-pub IsIndex-same : (index : List (Option ℕ)) (old rows : List (Option FrameRow)) → IsIndex index old → ((g : ℕ) → SameRow (row_at old g) (row_at rows g)) → IsIndex index rows
+pub IsIndex-same : (index : List ℕ) (old rows : List (Option FrameRow)) → IsIndex index old → ((g : ℕ) → SameRow (row_at old g) (row_at rows g)) → IsIndex index rows
 IsIndex-same index old rows h same =
     record {
-      slots = h.slots;
+      blocks = h.blocks;
       frames = h.frames;
-      reached = λ f y is.
+      below = λ f y is.
           let x = same-other (row_at old f) (row_at rows f) y (same f) is in
-          subst (λ b. IsReached index b f) (sym x.3) (h.reached f x.0 x.1);
+          subst (λ b. b < 4096) (sym x.3) (h.below f x.0 x.1);
+      leads = λ f y is.
+          let x = same-other (row_at old f) (row_at rows f) y (same f) is in
+          subst (λ b. get_or index b 0 ≡ f) (sym x.3) (h.leads f x.0 x.1);
     }
 
 -- a frame in use is one of the rows
@@ -177,14 +180,14 @@ IsFrames-swapped c f g h first second =
     }
 
 -- one row with the same frame and block, the index included
-pub put-same : (c : Frames) (index : List (Option ℕ)) (rows : List (Option FrameRow)) (f : ℕ) (x y : FrameRow) → IsFrames c → IsIndex index c.rows → row_at c.rows f ≡ Some x
+pub put-same : (c : Frames) (index : List ℕ) (rows : List (Option FrameRow)) (f : ℕ) (x y : FrameRow) → IsFrames c → IsIndex index c.rows → row_at c.rows f ≡ Some x
     → rows ≡ set c.rows f (Some y) → y.frame ≡ x.frame → y.block ≡ x.block → IsFrames (record c { rows = rows }) × IsIndex index rows
 put-same c index rows f x y h ix is after frame block =
     subst (λ (w : List (Option FrameRow)). IsFrames (record c { rows = w }) × IsIndex index w) (sym after)
     (IsFrames-set c f x y h is frame block, IsIndex-same index c.rows (set c.rows f (Some y)) ix (set-same c.rows f x y is frame block))
 
 -- another owner, the index included
-pub hand-same : (c : Frames) (index : List (Option ℕ)) (from to : ℕ) → IsFrames c → IsIndex index c.rows → IsFrames (handed_over from to c) × IsIndex index (handed_over from to c).rows
+pub hand-same : (c : Frames) (index : List ℕ) (from to : ℕ) → IsFrames c → IsIndex index c.rows → IsFrames (handed_over from to c) × IsIndex index (handed_over from to c).rows
 hand-same c index from to h ix = (IsFrames-handed c from to h, IsIndex-same index c.rows (handed_over from to c).rows ix (map-same from to c.rows))
 
 -- there is room for a frame as the newest
@@ -305,7 +308,7 @@ swapped-new c order f g h first second is-order =
     subst (λ w. IsFrames (record { rows = c.rows; order = w; count = c.count })) (sym is-order) (IsFrames-swapped c f g h first second)
 
 -- another owner, by the new rows
-pub handed-new : (c : Frames) (index : List (Option ℕ)) (rows : List (Option FrameRow)) (from to : ℕ) → IsFrames c → IsIndex index c.rows
+pub handed-new : (c : Frames) (index : List ℕ) (rows : List (Option FrameRow)) (from to : ℕ) → IsFrames c → IsIndex index c.rows
     → rows ≡ map (λ (r : Option FrameRow). option_map (handed from to) r) c.rows → IsFrames (record { rows = rows; order = c.order; count = c.count }) × IsIndex index rows
 handed-new c index rows from to h ix is =
     subst (λ w. IsFrames (record { rows = w; order = c.order; count = c.count }) × IsIndex index w) (sym is) (hand-same c index from to h ix)
@@ -316,11 +319,17 @@ none-used zero f = refl
 none-used (suc n) zero = refl
 none-used (suc n) (suc f) = none-used n f
 
+-- an index where no frame is in use
+zero-at : (n b : ℕ) → ◌≡◌ {A = ℕ} (get_or (replicate n 0) b 0) 0
+zero-at zero b = refl
+zero-at (suc n) zero = refl
+zero-at (suc n) (suc b) = zero-at n b
+
 -- the cache at first
-pub new-kept : (rows : List (Option FrameRow)) (order : List ℕ) (count : ℕ) (index : List (Option ℕ)) → 2 ≤ count → count ≤ 64 → rows ≡ replicate 64 None → order ≡ []
-    → index ≡ replicate 128 None → IsFrames (record { rows = rows; order = order; count = count }) × IsIndex index rows × HasRoom index 0
+pub new-kept : (rows : List (Option FrameRow)) (order : List ℕ) (count : ℕ) (index : List ℕ) → 2 ≤ count → count ≤ 64 → rows ≡ replicate 64 None → order ≡ []
+    → index ≡ replicate 4096 0 → IsFrames (record { rows = rows; order = order; count = count }) × IsIndex index rows
 new-kept rows order count index least most is-rows is-order is-index =
-    let empty : (s : ℕ) → get_or index s None ≡ None = λ s. ap (λ w. get_or w s None) is-index ∙ none-used 128 s in
+    let zero_there : (b : ℕ) → get_or index b 0 ≡ 0 = λ b. ap (λ w. get_or w b 0) is-index ∙ zero-at 4096 b in
     let none : (f : ℕ) → row_at rows f ≡ None = λ f. ap (λ w. row_at w f) is-rows ∙ none-used 64 f in
     let off : (f : ℕ) → is_some (row_at rows f) ≡ false = λ f. ap (λ (o : Option FrameRow). is_some o) (none f) in (
       record {
@@ -333,15 +342,56 @@ new-kept rows order count index least most is-rows is-order is-index =
         numbered = λ f r is. let no = none f in absurd (cc);
         one_frame = λ f g x y is-f is-g blocks. let no = none f in absurd (cc);
       },
-      record { slots = ap length is-index; frames = λ s f is. let no = empty s in absurd (cc); reached = λ f r is. let no = none f in absurd (cc) },
-      record { most = omega (arith, ap (λ w. count_by (λ (o : Option ℕ). is_some o) w) is-index); bound = omega arith },
+      record {
+        blocks = ap length is-index;
+        frames = λ b. omega (arith, zero_there b);
+        below = λ f r is. let no = none f in absurd (cc);
+        leads = λ f r is. let no = none f in absurd (cc);
+      },
     )
 
--- a frame that was filled leaves the way to the others
-pub reached-others : (c : Frames) (index : List (Option ℕ)) (rows : List (Option FrameRow)) (f : ℕ) (r : FrameRow) → IsIndex index c.rows → rows ≡ set c.rows f (Some r)
-    → (g : ℕ) (x : FrameRow) → (g ≡ f → ⊥) → row_at rows g ≡ Some x → IsReached index x.block g
-reached-others c index rows f r ix is-rows g x other is =
-    ix.reached g x (sym (get_or-set_other c.rows f g (Some r) None other) ∙ sym (ap (λ w. row_at w g) is-rows) ∙ is)
+-- a frame holds the block of its row
+holds-its : (b : ℕ) (a : Option FrameRow) (x : FrameRow) → a ≡ Some x → x.block ≡ b → holds b a ≡ true
+holds-its b a x is block = grind (arith, nat_tests, is, block)
+
+-- the index where the block that a frame was filled with leads to it
+lead-set : (rows : List (Option FrameRow)) (index : List ℕ) (f : ℕ) (r : FrameRow) → IsIndex index rows → f < length rows → f < 64 → r.block < 4096
+    → ((g : ℕ) → holds r.block (row_at rows g) ≡ true → g ≡ f) → IsIndex (set index r.block f) (set rows f (Some r))
+lead-set rows index f r h inside range below one =
+    let first : r.block < length index = let blocks = h.blocks in omega arith in
+    let there : row_at (set rows f (Some r)) f ≡ Some r = get_or-set_same rows f (Some r) None inside in
+    record {
+      blocks = length-set index r.block f ∙ h.blocks;
+      frames = λ b.
+          elim (cases_eq b r.block) [
+            | inl same ↦ subst (λ c. get_or (set index r.block f) c 0 < 64) (sym same) (subst (λ g. g < 64) (sym (get_or-set_same index r.block f 0 first)) range)
+            | inr other ↦ subst (λ g. g < 64) (sym (get_or-set_other index r.block b f 0 other)) (h.frames b)
+          ];
+      below = λ g x is.
+          elim (cases_eq g f) [
+            | inl same ↦ let here : row_at (set rows f (Some r)) f ≡ Some x = subst (λ k. row_at (set rows f (Some r)) k ≡ Some x) same is in
+                let row : r ≡ x = cc in subst (λ (y : FrameRow). y.block < 4096) row below
+            | inr other ↦ h.below g x (sym (get_or-set_other rows f g (Some r) None other) ∙ is)
+          ];
+      leads = λ g x is.
+          elim (cases_eq g f) [
+            | inl same ↦ let here : row_at (set rows f (Some r)) f ≡ Some x = subst (λ k. row_at (set rows f (Some r)) k ≡ Some x) same is in
+                let row : r ≡ x = cc in
+                subst (λ (y : FrameRow). get_or (set index r.block f) y.block 0 ≡ g) row (get_or-set_same index r.block f 0 first ∙ sym same)
+            | inr other ↦ let was : row_at rows g ≡ Some x = sym (get_or-set_other rows f g (Some r) None other) ∙ is in
+                let apart : x.block ≡ r.block → ⊥ = λ same. other (one g (holds-its r.block (row_at rows g) x was same)) in
+                get_or-set_other index r.block x.block f 0 apart ∙ h.leads g x was
+          ];
+    }
+
+-- the same, by the new rows and the new index
+pub lead-new : (c : Frames) (index new : List ℕ) (rows : List (Option FrameRow)) (f : ℕ) (r : FrameRow) → IsFrames c → IsIndex index c.rows → f < c.count → r.block < 4096
+    → ((g : ℕ) → holds r.block (row_at c.rows g) ≡ true → g ≡ f) → rows ≡ set c.rows f (Some r) → new ≡ set index r.block f → IsIndex new rows
+lead-new c index new rows f r h ix below block one is-rows is-new =
+    let long = h.rows in
+    let most = h.most in
+    subst (λ w. IsIndex w rows) (sym is-new)
+    (subst (λ w. IsIndex (set index r.block f) w) (sym is-rows) (lead-set c.rows index f r ix (omega arith) (omega arith) block one))
 
 -- a frame of the order of use is in use
 pub order-used : (c : Frames) → IsFrames c → (i : ℕ) → i < length c.order → in_use (get_or c.order i 0) c ≡ true

@@ -11,7 +11,7 @@ ghost use Rattle.buffer_cache.specs.Frames.{filled_row};
 use crate::frames::{
     change_owner, exchange, free_frame, held_in, make_newest, no_rows, put_row, row_of,
 };
-use crate::index::{SLOTS, find_frame, lead, no_slots};
+use crate::index::{BLOCKS, find_frame, first_index, lead};
 use arrayvec::ArrayVec;
 use kernel_model::{BLOCK_BYTES, FRAMES, FrameRow};
 use ram_space::Ram;
@@ -25,13 +25,12 @@ pub struct Cache {
     rows: [Option<FrameRow>; FRAMES],
     order: ArrayVec<u8, FRAMES>,
     count: u8,
-    index: [Option<u8>; SLOTS],
-    used: u8,
+    index: [u8; BLOCKS],
 }
 
 impl Model for Cache {
     ghost use Rattle.buffer_cache.specs.Frames.{Frames, IsFrames};
-    ghost use Rattle.buffer_cache.specs.BlockIndex.{IsIndex, HasRoom};
+    ghost use Rattle.buffer_cache.specs.BlockIndex.{IsIndex};
 
     ghost Value = { Frames };
 
@@ -39,8 +38,7 @@ impl Model for Cache {
 
     ghost invariant = { λ c.
         IsFrames (record { rows = c.rows; order = c.order.items; count = c.count })
-        × IsIndex c.index c.rows
-        × HasRoom c.index c.used };
+        × IsIndex c.index c.rows };
 }
 
 /// Where a frame's bytes begin.
@@ -77,8 +75,7 @@ impl Cache {
             rows: no_rows(),
             order: ArrayVec::new(),
             count: frames,
-            index: no_slots(),
-            used: 0,
+            index: first_index(),
         }
     }
 
@@ -146,8 +143,7 @@ impl Cache {
     {
         put_row(&mut self.rows, f, new_row(f, owner, block));
         make_newest(&mut self.order, f);
-        let used = lead(&mut self.index, self.used, &self.rows, self.count, f);
-        self.used = used;
+        lead(&mut self.index, block, f);
         ram.copy_in(start_of(f), bytes);
     }
 

@@ -1,4 +1,4 @@
-//! Runs with three frames, and blocks whose search begins at one slot of the index.
+//! Runs with three frames, and with two that come to hold many blocks.
 
 ghost use Rattle.std.specs.Prelude.{◌<◌};
 
@@ -39,6 +39,8 @@ fn blocks_are_found_used_changed_and_evicted(rt: HostRuntime) {
         assert!(rt; cache.lru() == [1, 2, 0].as_slice());
         assert_eq!(rt; cache.find(133), Some(1));
         assert!(rt; cache.find(389).is_none());
+        assert!(rt; cache.find(4096).is_none());
+        assert!(rt; cache.find(4294967295).is_none());
         if let Some(f) = cache.find(133) {
             cache.patch(&mut ram, f, 510, b"\xaa\xbb");
             cache.mark(f, 200);

@@ -1,7 +1,7 @@
 use Rattle.std.proofs.Common.{Option, take, arith, sym}
 use Rattle.std.specs.Option.{is_none}
 use Rattle.kernel_model.specs.declared.FrameRow.{FrameRow}
-use Rattle.buffer_cache.proofs.Probes.{position-found, position-missing}
+use Rattle.buffer_cache.proofs.Finding.{position-found, position-missing}
 use Rattle.buffer_cache.proofs.frames.free_frame.Goals as goal
 
 pub returns-then-is_none-clause-value : goal.returns-then-is_none-clause-value

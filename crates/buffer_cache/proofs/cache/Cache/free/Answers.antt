@@ -4,7 +4,7 @@ use Rattle.std.specs.Option.{is_none}
 use Rattle.kernel_model.specs.declared.FrameRow.{FrameRow}
 use Rattle.buffer_cache.specs.Frames.{Frames, in_use}
 use Rattle.buffer_cache.proofs.Rows.{all-used}
-use Rattle.buffer_cache.proofs.Probes.{none-free}
+use Rattle.buffer_cache.proofs.Finding.{none-free}
 use Rattle.buffer_cache.proofs.cache.Cache.free.Goals as goal
 
 pub returns-then-len-from-clause-value : goal.returns-then-len-from-clause-value

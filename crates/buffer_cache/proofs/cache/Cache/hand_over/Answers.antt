@@ -8,7 +8,7 @@ pub invariant_of-self : goal.invariant_of-self
 invariant_of-self c =
     let cache : Frames = record { rows = c.self.inside.rows; order = c.self.inside.order.items; count = c.self.inside.count } in
     let kept = handed-new cache c.self.inside.index c.change_owner.new.rows c.args.from c.args.to c.self.invariant.0 c.self.invariant.1 c.change_owner.ensures in
-    (kept.0, kept.1, c.self.invariant.2)
+    (kept.0, kept.1)
 
 pub returns-clause-used : goal.returns-clause-used
 returns-clause-used c =

@@ -9,5 +9,4 @@ invariant_of-self c =
       swapped-new cache c.exchange.new.order.items c.args.f c.args.g c.self.invariant.0
           (subst (λ (v : Frames). in_use c.args.f v ≡ true) (sym c.self.view_is) c.requires.first) (subst (λ (v : Frames). in_use c.args.g v ≡ true) (sym c.self.view_is) c.requires.second) c.exchange.ensures,
       c.self.invariant.1,
-      c.self.invariant.2,
     )

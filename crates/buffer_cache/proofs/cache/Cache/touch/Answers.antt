@@ -15,4 +15,4 @@ make_newest-requires c =
 pub invariant_of-self : goal.invariant_of-self
 invariant_of-self c =
     let cache : Frames = record { rows = c.self.inside.rows; order = c.self.inside.order.items; count = c.self.inside.count } in
-    (touched-new cache c.make_newest.new.order.items c.args.f c.self.invariant.0 (subst (λ (v : Frames). in_use c.args.f v ≡ true) (sym c.self.view_is) c.requires) c.make_newest.ensures, c.self.invariant.1, c.self.invariant.2)
+    (touched-new cache c.make_newest.new.order.items c.args.f c.self.invariant.0 (subst (λ (v : Frames). in_use c.args.f v ≡ true) (sym c.self.view_is) c.requires) c.make_newest.ensures, c.self.invariant.1)
