@@ -1,5 +1,5 @@
 -- What an answer gives is a range of memory.
-use Rattle.std.proofs.Common.{◌≡◌, ℕ, ◌+◌, ◌-◌, ◌*◌, ◌<◌, ◌≤◌, true, List, [], Option, None, Some, min, length, get_or, take, drop, map, sym, ap, ◌∙◌, refl, arith, length-drop, length-take-le}
+use Rattle.std.proofs.Common.{◌≡◌, ℕ, ◌+◌, ◌-◌, ◌*◌, ◌<◌, ◌≤◌, true, List, [], Option, None, Some, min, length, get_or, take, drop, map, sym, ap, ◌∙◌, refl, arith, length-drop, length-take-le, zero, suc, ◌∷◌, ◌++◌}
 use Rattle.std.specs.List.{range_with_len, slice_index, slice_range}
 use Rattle.std.proofs.lemmas.Bool.Decides.{nat_tests}
 use Rattle.std.proofs.lemmas.Grind.{same_number_lists}
@@ -85,3 +85,19 @@ pub bytes_in_frame : (c : Frames) (ram : List ℕ) (f off len : ℕ) → in_use 
 bytes_in_frame c ram f off len used inside =
     ap (λ (x : List ℕ). slice_range x off (off + len)) (row_bytes ram f (row_at c.rows f) used)
     ∙ part_of_range ram (512 * f) 512 off len inside
+
+-- the front of a front
+take_twice : (m n : ℕ) (xs : List ℕ) → n ≤ m → take n (take m xs) ≡ take n xs
+take_twice m zero xs less = refl
+take_twice zero (suc n) xs less = absurd (omega arith)
+take_twice (suc m) (suc n) [] less = refl
+take_twice (suc m) (suc n) (x ∷ xs) less = ap (λ ys. x ∷ ys) (take_twice m n xs (omega arith))
+
+-- some of the bytes behind others, of which more were put there
+pub take_behind : (m n : ℕ) (xs ys : List ℕ) → n ≤ m → take (length xs + n) (xs ++ take m ys) ≡ xs ++ take n ys
+take_behind m n [] ys less =
+    let none : length (let e : List ℕ = [] in e) + n ≡ n = omega arith in
+    ap (λ k. take k (take m ys)) none ∙ take_twice m n ys less
+take_behind m n (x ∷ xs) ys less =
+    let one : length (x ∷ xs) + n ≡ suc (length xs + n) = omega arith in
+    ap (λ k. take k (x ∷ (xs ++ take m ys))) one ∙ ap (λ zs. x ∷ zs) (take_behind m n xs ys less)

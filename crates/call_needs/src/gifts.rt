@@ -1,16 +1,20 @@
 //! The bytes that a piece gives.
 
 ghost use Rattle.std.specs.Prelude.{◌≡◌, ◌≤◌, ◌<◌, ◌+◌, ◌++◌, true, Some, None, drop, length};
-ghost use Rattle.std.specs.Prelude.{slice_range, IfSome, IfNone};
+ghost use Rattle.std.specs.Prelude.{slice_range, take, is_some, vec_capacity, IfSome, IfNone};
 ghost use Rattle.kernel_model.specs.Fetch.{bytes_of};
 ghost use Rattle.buffer_cache.specs.Frames.{in_use};
 ghost use Rattle.kernel_state.specs.Stores.{body_at, cache_of};
 
-use crate::bodies::{body_len, body_place, frame_range};
+use crate::bodies::{body_len, body_place, frame_bytes};
 use graft_points::Policy;
 use kernel_model::BLOCK_BYTES;
 use kernel_state::Store;
 use std::marker::Model;
+
+/// So few bytes are copied together with those behind them, as many as these: then what is done doesn't
+/// hang on how many they are.
+const FEW: usize = 16;
 
 /// The bytes that a piece gave, if it gave some: a part of a block. Contracts see their list, or
 /// none.
@@ -81,13 +85,30 @@ impl Gift {
         self.give_bytes(store.ram.bytes(body_place(p), body_len(answer)));
     }
 
-    /// Gives bytes off to off + len of frame f, which is in use. No other byte is copied.
+    /// Gives bytes off to off + len of frame f, which is in use.
     pub fn give<B: Policy>(&mut self, store: &Store<B>, f: u8, off: u32, len: u32)
         requires in_cache { in_use f store.now.cache ≡ true }
         requires inside { off + len ≤ 512 }
         ensures { self.new ≡ Some (slice_range (bytes_of (cache_of store.now) f) off (off + len)) }
     {
-        self.give_bytes(frame_range(store, f, off, len));
+        put_range(
+            &mut self.block,
+            frame_bytes(store, f),
+            off as usize,
+            len as usize,
+        );
+        self.given = true;
+        self.count = len as usize;
+    }
+
+    /// Puts the bytes that were given behind others, where there is room for a block.
+    pub fn append_to(&self, bytes: &mut Vec<u8>)
+        requires given { is_some self.now ≡ true }
+        requires room { length bytes.old.items + 512 ≤ vec_capacity bytes.old }
+        ensures bytes { IfSome self.now (λ b. bytes.new.items ≡ bytes.old.items ++ b) }
+        ensures room { vec_capacity bytes.old ≤ vec_capacity bytes.new }
+    {
+        put_behind(bytes, &self.block, self.count);
     }
 }
 
@@ -97,4 +118,36 @@ fn put_first(block: &mut [u8], bytes: &[u8])
     ensures { block.new ≡ bytes.now ++ drop (length bytes.now) block.old }
 {
     block[..bytes.len()].copy_from_slice(bytes);
+}
+
+/// Puts bytes off to off + len of a frame in front of a block.
+fn put_range(block: &mut [u8], frame: &[u8], off: usize, len: usize)
+    requires block { length block.old ≡ 512 }
+    requires frame { length frame.now ≡ 512 }
+    requires inside { off + len ≤ 512 }
+    ensures value { take len block.new ≡ slice_range frame.now off (off + len) }
+    ensures size { length block.new ≡ 512 }
+{
+    if len <= FEW && off <= BLOCK_BYTES - FEW {
+        put_first(block, &frame[off..off + FEW]);
+    } else {
+        put_first(block, &frame[off..off + len]);
+    }
+}
+
+/// Puts the first bytes of a block, so many, behind others.
+fn put_behind(bytes: &mut Vec<u8>, block: &[u8], count: usize)
+    requires block { length block.now ≡ 512 }
+    requires count { count ≤ 512 }
+    requires room { length bytes.old.items + 512 ≤ vec_capacity bytes.old }
+    ensures bytes { bytes.new.items ≡ bytes.old.items ++ take count block.now }
+    ensures room { vec_capacity bytes.old ≤ vec_capacity bytes.new }
+{
+    if count > FEW {
+        let _ = bytes.extend_from_slice(&block[..count]);
+        return;
+    }
+    let end = bytes.len() + count;
+    let _ = bytes.extend_from_slice(&block[..FEW]);
+    bytes.truncate(end);
 }

@@ -1,6 +1,7 @@
 -- One more note of those that are kept as rows and bytes.
-use Rattle.std.proofs.Common.{◌≡◌, ℕ, zero, suc, ◌≤◌, List, [], ◌∷◌, ◌++◌, take, length, refl, ap, sym, ◌∙◌, arith, subst}
+use Rattle.std.proofs.Common.{◌≡◌, ℕ, zero, suc, ◌≤◌, ◌+◌, ◌*◌, List, [], ◌∷◌, ◌++◌, take, length, refl, ap, sym, ◌∙◌, arith, subst}
 use Rattle.std.specs.Prelude.{cond, drop, ◌<◌, Option, None}
+use Rattle.std.proofs.lemmas.List.{length-append, length_push}
 use Rattle.std.proofs.lemmas.List.Sums.{sum_by-append}
 use Rattle.kernel_model.specs.declared.BareNote.{BareNote}
 use Rattle.kernel_model.specs.declared.Note.{Note}
@@ -9,7 +10,7 @@ use Rattle.kernel_model.specs.Kernel.{gave_note}
 use Rattle.kernel_steps.specs.Composing.{adds_none}
 use Rattle.kernel_steps.specs.Faults.{fault_notes, is_fault_note}
 use Rattle.kernel_steps.specs.Kept.{kept_full, kept_more}
-use Rattle.kernel_steps.specs.Noting.{AreGiven}
+use Rattle.kernel_steps.specs.Noting.{AreGiven, NotesFit}
 use Rattle.kernel_steps.specs.Refines.{Adds}
 
 -- the whole of a list
@@ -60,6 +61,25 @@ given_added (x ∷ list) bytes note more given count few =
       no_longer n bytes more given.1,
       subst (AreGiven (list ++ note ∷ [])) (sym (drop_front n bytes more given.1)) (given_added list (drop n bytes) note more given.2 count few),
     )
+
+pub fit_added : (list new_list : List BareNote) (bytes new_bytes more : List ℕ) (note : BareNote) (list_room bytes_room new_list_room new_bytes_room : ℕ) →
+    NotesFit list bytes list_room bytes_room → length list < 530 → given_count note ≡ length more → length more ≤ 512 →
+    new_list ≡ list ++ note ∷ [] → new_bytes ≡ bytes ++ more → list_room ≤ new_list_room → bytes_room ≤ new_bytes_room →
+    NotesFit new_list new_bytes new_list_room new_bytes_room
+fit_added list new_list bytes new_bytes more note list_room bytes_room new_list_room new_bytes_room fit room count few is_list is_bytes wide_list wide_bytes =
+    let many : length new_list ≡ length list + 1 = ap length is_list ∙ length_push list note in
+    let size : length new_bytes ≡ length bytes + length more = ap length is_bytes ∙ length-append bytes more in
+    let rows = fit.rows in
+    let few_bytes = fit.few_bytes in
+    let wide = fit.room in
+    record {
+      rows = omega arith;
+      few = omega arith;
+      room = omega arith;
+      few_bytes = omega arith;
+      given = subst (λ xs. AreGiven xs new_bytes) (sym is_list)
+          (subst (AreGiven (list ++ note ∷ [])) (sym is_bytes) (given_added list bytes note more fit.given count few));
+    }
 
 pub as_many : (list : List BareNote) (bytes : List ℕ) → length (notes_with list bytes) ≡ length list
 as_many [] bytes = refl

@@ -50,36 +50,6 @@ fn without_bytes(note: BareNote) -> BareNote
     }
 }
 
-/// Bytes behind others, for which there is room. Most notes give none.
-fn append(bytes: &mut Vec<u8>, more: &[u8])
-    requires { length bytes.old.items + length more.now ≤ vec_capacity bytes.old }
-    ensures bytes { bytes.new.items ≡ bytes.old.items ++ more.now }
-    ensures room { vec_capacity bytes.old ≤ vec_capacity bytes.new }
-{
-    if more.is_empty() {
-        return;
-    }
-    let _ = bytes.extend_from_slice(more);
-}
-
-/// One more note, and its bytes, where there is room. It is always inlined: what kind of note it is
-/// is known then.
-#[inline(always)]
-fn add(list: &mut Vec<BareNote>, bytes: &mut Vec<u8>, note: BareNote, more: &[u8])
-    requires fit { NotesFit list.old.items bytes.old.items (vec_capacity list.old)
-        (vec_capacity bytes.old) }
-    requires count { given_count note ≡ length more.now }
-    requires few { length more.now ≤ 512 }
-    requires room { length list.old.items < 530 }
-    ensures fit { NotesFit list.new.items bytes.new.items (vec_capacity list.new)
-        (vec_capacity bytes.new) }
-    ensures list { list.new.items ≡ list.old.items ++ note ∷ [] }
-    ensures bytes { bytes.new.items ≡ bytes.old.items ++ more.now }
-{
-    let _ = list.push(note);
-    append(bytes, more);
-}
-
 impl Notes {
     /// No notes, with room for those of one event.
     pub fn new(alloc: Global) -> Result<Notes, NoMemory>
@@ -118,7 +88,7 @@ impl Notes {
         ensures { Adds (note_with note [] ∷ []) self.old self.new }
     {
         if self.list.len() < NOTES {
-            add(&mut self.list, &mut self.bytes, without_bytes(note), &[]);
+            let _ = self.list.push(without_bytes(note));
         }
     }
 
@@ -132,8 +102,8 @@ impl Notes {
             return;
         };
         if self.list.len() < NOTES {
-            let note = BareNote::Gave(number, bytes.len() as u16);
-            add(&mut self.list, &mut self.bytes, note, bytes);
+            let _ = self.list.push(BareNote::Gave(number, bytes.len() as u16));
+            gave.append_to(&mut self.bytes);
         }
     }
 }

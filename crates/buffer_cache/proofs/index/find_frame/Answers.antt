@@ -1,7 +1,7 @@
 use Rattle.std.proofs.Common.{◌≡◌, ℕ, false, arith, sym, ◌∙◌, subst}
 use Rattle.std.proofs.lemmas.Bool.Decides.{nat_tests}
 use Rattle.buffer_cache.specs.Frames.{holds, row_at}
-use Rattle.buffer_cache.proofs.Finding.{found, missing, missing-each, holds-used}
+use Rattle.buffer_cache.proofs.Finding.{found, missing}
 use Rattle.buffer_cache.proofs.index.find_frame.Goals as goal
 
 pub returns-in_default-clause-value : goal.returns-in_default-clause-value

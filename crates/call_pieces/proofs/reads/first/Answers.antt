@@ -2,7 +2,6 @@ use Rattle.std.proofs.Common.{rules, ℕ, ◌++◌, length, ap, sym, refl, Optio
 use Rattle.kernel_model.specs.declared.OpenRow.{OpenRow}
 use Rattle.kernel_model.specs.declared.Refusal.{Refusal}
 use Rattle.kernel_model.specs.FilePieces.{read_first_at, read_first, read_on}
-use Rattle.kernel_model.specs.World.{World}
 use Rattle.kernel_model.specs.Needs.{file_block}
 use Rattle.kernel_state.specs.Stores.{world_of_store, objects_of, cache_of}
 use Rattle.call_needs.specs.Fetching.{fetch_of}

@@ -1,7 +1,5 @@
-use Rattle.std.proofs.Common.{Some, IfSome}
 use Rattle.kernel_model.specs.FilePieces.{with_ahead}
-use Rattle.kernel_model.specs.World.{blocks_of}
-use Rattle.kernel_state.specs.Stores.{objects_of, world_of_store}
+use Rattle.kernel_state.specs.Stores.{objects_of}
 use Rattle.call_pieces.proofs.ReadLaws.{file_here, changed_file, goes_second}
 use Rattle.call_pieces.proofs.reads.second.Goals as goal
 
