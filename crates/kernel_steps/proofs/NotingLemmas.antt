@@ -1,6 +1,6 @@
 -- One more note of those that are kept as rows and bytes.
 use Rattle.std.proofs.Common.{◌≡◌, ℕ, zero, suc, ◌≤◌, ◌+◌, ◌*◌, List, [], ◌∷◌, ◌++◌, take, length, refl, ap, sym, ◌∙◌, arith, subst}
-use Rattle.std.specs.Prelude.{cond, drop, ◌<◌, Option, None}
+use Rattle.std.specs.Prelude.{cond, drop, ◌<◌, Option, None, Some, IfSome}
 use Rattle.std.proofs.lemmas.List.{length-append, length_push}
 use Rattle.std.proofs.lemmas.List.Sums.{sum_by-append}
 use Rattle.kernel_model.specs.declared.BareNote.{BareNote}
@@ -17,6 +17,11 @@ use Rattle.kernel_steps.specs.Refines.{Adds}
 take_all : (xs : List ℕ) → take (length xs) xs ≡ xs
 take_all [] = refl
 take_all (x ∷ xs) = ap (λ zs. x ∷ zs) (take_all xs)
+
+-- nothing behind
+pub none_behind : (xs : List ℕ) → xs ++ [] ≡ xs
+none_behind [] = refl
+none_behind (x ∷ xs) = ap (λ zs. x ∷ zs) (none_behind xs)
 
 -- the front of two lists
 take_front : (n : ℕ) (xs ys : List ℕ) → n ≤ length xs → take n (xs ++ ys) ≡ take n xs
@@ -62,6 +67,14 @@ given_added (x ∷ list) bytes note more given count few =
       subst (AreGiven (list ++ note ∷ [])) (sym (drop_front n bytes more given.1)) (given_added list (drop n bytes) note more given.2 count few),
     )
 
+-- the bytes of the notes with those that were given behind them
+pub given_whole : (bytes kept new more : List ℕ) (size : ℕ) (gave : Option (List ℕ)) → kept ≡ bytes → gave ≡ Some more → IfSome gave (λ b. new ≡ kept ++ b) → size ≡ length new →
+    take size new ≡ bytes ++ more
+given_whole bytes kept new more size gave same some given whole =
+    let put : new ≡ kept ++ more = subst (λ (o : Option (List ℕ)). IfSome o (λ b. new ≡ kept ++ b)) some given in
+    ap (λ n. take n new) whole ∙ take_all new ∙ put ∙ ap (λ xs. xs ++ more) same
+
+-- one note more, and its bytes
 pub fit_added : (list new_list : List BareNote) (bytes new_bytes more : List ℕ) (note : BareNote) (list_room bytes_room new_list_room new_bytes_room : ℕ) →
     NotesFit list bytes list_room bytes_room → length list < 530 → given_count note ≡ length more → length more ≤ 512 →
     new_list ≡ list ++ note ∷ [] → new_bytes ≡ bytes ++ more → list_room ≤ new_list_room → bytes_room ≤ new_bytes_room →

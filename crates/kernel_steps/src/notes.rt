@@ -19,24 +19,29 @@ const NOTE_BYTES: usize = NOTES * BLOCK_BYTES;
 
 /// The notes of an event, in order: small rows, and the bytes that were given, one behind the
 /// other. Contracts see the list of the notes with their bytes. Memory is taken once.
+///
+/// Only the first bytes, so many as the size, are those of the notes: bytes of an event before stay
+/// behind them until others are given, so that to forget them is one store.
 #[derive(Drop)]
 pub struct Notes {
     list: Vec<BareNote>,
     bytes: Vec<u8>,
+    size: usize,
 }
 
 impl Model for Notes {
-    ghost use Rattle.std.specs.Prelude.{List, vec_capacity};
+    ghost use Rattle.std.specs.Prelude.{List, take, length, ◌≤◌, vec_capacity};
     ghost use Rattle.kernel_model.specs.declared.Note.{Note};
     ghost use Rattle.kernel_model.specs.Bare.{notes_with};
     ghost use Rattle.kernel_steps.specs.Noting.{NotesFit};
 
     ghost Value = { List Note };
 
-    ghost view = { λ n. notes_with n.list.items n.bytes.items };
+    ghost view = { λ n. notes_with n.list.items (take n.size n.bytes.items) };
 
-    ghost invariant = { λ n. NotesFit n.list.items n.bytes.items (vec_capacity n.list)
-        (vec_capacity n.bytes) };
+    ghost invariant = { λ n.
+        NotesFit n.list.items (take n.size n.bytes.items) (vec_capacity n.list) (vec_capacity n.bytes)
+        × n.size ≤ length n.bytes.items };
 }
 
 /// The same note, without bytes.
@@ -59,7 +64,11 @@ impl Notes {
             return Err(NoMemory);
         };
         match Vec::with_capacity(alloc, NOTE_BYTES) {
-            Ok(bytes) => Ok(Notes { list, bytes }),
+            Ok(bytes) => Ok(Notes {
+                list,
+                bytes,
+                size: 0,
+            }),
             Err(_) => Err(NoMemory),
         }
     }
@@ -69,7 +78,7 @@ impl Notes {
         ensures { self.new ≡ [] }
     {
         self.list.clear();
-        self.bytes.clear();
+        self.size = 0;
     }
 
     /// The notes without their bytes, in order, and the bytes that they gave, one behind the other.
@@ -79,7 +88,7 @@ impl Notes {
         ensures few_notes { length self.now ≤ 530 }
         ensures given { AreGiven result.0.now result.1.now }
     {
-        (self.list.as_slice(), self.bytes.as_slice())
+        (self.list.as_slice(), &self.bytes[..self.size])
     }
 
     /// One more note, without bytes. No event of a sound kernel has more than 530; of more
@@ -103,7 +112,9 @@ impl Notes {
         };
         if self.list.len() < NOTES {
             let _ = self.list.push(BareNote::Gave(number, bytes.len() as u16));
+            self.bytes.truncate(self.size);
             gave.append_to(&mut self.bytes);
+            self.size = self.bytes.len();
         }
     }
 }
