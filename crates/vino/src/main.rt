@@ -21,8 +21,6 @@ const BLOCK_BYTES: u64 = 512;
 /// The status where main itself found no memory.
 const NO_MEMORY: u8 = 5;
 
-// It isn't inlined: so the loop of grafts begins at a multiple of 32 bytes (docs/SPEED.md).
-#[inline(never)]
 fn main(rt: HostRuntime) -> ExitCode {
     ExitCode::from(match words(&rt) {
         Ok(words) => run(&rt, &words),
