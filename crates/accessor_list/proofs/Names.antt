@@ -5,10 +5,11 @@ use Rattle.std.proofs.lemmas.List.Quantifiers.{position-Some}
 use Rattle.std.proofs.lemmas.Option.{slice_get-get_or}
 use Rattle.std.proofs.lemmas.Slice.Eq.{bytes_eq-Decides}
 use Rattle.kernel_model.specs.World.{same_bytes}
-use Rattle.kernel_model.specs.Assembler.{callables, callable_name, callable_id}
+use Rattle.kernel_model.specs.Callables.{callables, callable_name, callable_id}
 
 -- the name at the place where it is found
-found_at : (names : List (List ℕ)) (name : List ℕ) (i : ℕ) → position (same_bytes name) names ≡ Some i → slice_get names i ≡ Some name
+found_at : (names : List (List ℕ)) (name : List ℕ) (i : ℕ) →
+    position (same_bytes name) names ≡ Some i → slice_get names i ≡ Some name
 found_at names name i h =
     let p = position-Some (same_bytes name) names i [] h in
     rw (slice_get-get_or names i [] p.0) (ap Some (sym ((bytes_eq-Decides name (get_or names i [])).0 p.1)))
@@ -32,11 +33,21 @@ id-name (suc (suc (suc (suc (suc zero))))) name h = id_of_same (codes "window_se
 id-name (suc (suc (suc (suc (suc (suc zero)))))) name h = id_of_same (codes "frames_mine") name 6 refl (cc)
 id-name (suc (suc (suc (suc (suc (suc (suc zero))))))) name h = id_of_same (codes "frame_at") name 7 refl (cc)
 id-name (suc (suc (suc (suc (suc (suc (suc (suc zero)))))))) name h = id_of_same (codes "frame_block") name 8 refl (cc)
-id-name (suc (suc (suc (suc (suc (suc (suc (suc (suc zero))))))))) name h = id_of_same (codes "frame_mark") name 9 refl (cc)
-id-name (suc (suc (suc (suc (suc (suc (suc (suc (suc (suc zero)))))))))) name h = id_of_same (codes "tune_get") name 10 refl (cc)
-id-name (suc (suc (suc (suc (suc (suc (suc (suc (suc (suc (suc zero))))))))))) name h = id_of_same (codes "tune_set") name 11 refl (cc)
-id-name (suc (suc (suc (suc (suc (suc (suc (suc (suc (suc (suc (suc zero)))))))))))) name h = id_of_same (codes "take_lock") name 12 refl (cc)
-id-name (suc (suc (suc (suc (suc (suc (suc (suc (suc (suc (suc (suc (suc zero))))))))))))) name h = id_of_same (codes "ask_ra") name 13 refl (cc)
-id-name (suc (suc (suc (suc (suc (suc (suc (suc (suc (suc (suc (suc (suc (suc zero)))))))))))))) name h = id_of_same (codes "ask_victim") name 14 refl (cc)
-id-name (suc (suc (suc (suc (suc (suc (suc (suc (suc (suc (suc (suc (suc (suc (suc zero))))))))))))))) name h = id_of_same (codes "ask_sched") name 15 refl (cc)
+id-name (suc (suc (suc (suc (suc (suc (suc (suc (suc zero))))))))) name h =
+    id_of_same (codes "frame_mark") name 9 refl (cc)
+id-name (suc (suc (suc (suc (suc (suc (suc (suc (suc (suc zero)))))))))) name h =
+    id_of_same (codes "tune_get") name 10 refl (cc)
+id-name (suc (suc (suc (suc (suc (suc (suc (suc (suc (suc (suc zero))))))))))) name h =
+    id_of_same (codes "tune_set") name 11 refl (cc)
+id-name (suc (suc (suc (suc (suc (suc (suc (suc (suc (suc (suc (suc zero)))))))))))) name h =
+    id_of_same (codes "take_lock") name 12 refl (cc)
+id-name (suc (suc (suc (suc (suc (suc (suc (suc (suc (suc (suc (suc (suc zero))))))))))))) name h =
+    id_of_same (codes "ask_ra") name 13 refl (cc)
+id-name (suc (suc (suc (suc (suc (suc (suc (suc (suc (suc (suc (suc (suc (suc zero))))))))))))))
+    name h =
+    id_of_same (codes "ask_victim") name 14 refl (cc)
+id-name
+    (suc (suc (suc (suc (suc (suc (suc (suc (suc (suc (suc (suc (suc (suc (suc zero)))))))))))))))
+    name h =
+    id_of_same (codes "ask_sched") name 15 refl (cc)
 id-name (suc (suc (suc (suc (suc (suc (suc (suc (suc (suc (suc (suc (suc (suc (suc (suc id)))))))))))))))) name h = cc

@@ -5,13 +5,11 @@
 ghost use Rattle.std.specs.Prelude.{◌≡◌, ◌<◌, IfSome, length, position};
 ghost use Rattle.std.specs.Option.{option_copied};
 ghost use Rattle.kernel_model.specs.World.{same_bytes};
-ghost use Rattle.kernel_model.specs.Assembler.{callable_name, callable_id};
+ghost use Rattle.kernel_model.specs.Callables.{callable_name, callable_id};
 
 pub mod ids;
 pub mod laws;
 mod objects;
-#[cfg(test)]
-mod tests;
 
 pub use kernel_model::{Cause, Mode, Object};
 pub use objects::early;

@@ -1,7 +1,7 @@
 -- What the faults of the rewriter stand for.
 use Rattle.std.specs.Prelude.{◌≡◌, List, Option, Some, Result, Err}
-use Rattle.kernel_model.specs.declared.Instr.{Instr}
-use Rattle.kernel_model.specs.Boxed as model
+use Rattle.graft_code.specs.declared.Instr.{Instr}
+use Rattle.graft_code.specs.Boxed as model
 use Rattle.box_rewriter.specs.declared.RewriteFault.{RewriteFault}
 use Rattle.box_rewriter.specs.declared.RewriteFault.TheVariants.{Register, Jump, Call, End, TooLarge, NoMemory}
 

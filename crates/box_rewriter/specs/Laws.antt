@@ -1,7 +1,7 @@
 -- The law of boxed code.
 use Rattle.std.specs.Prelude.{◌≡◌, List, Ok}
-use Rattle.kernel_model.specs.declared.Instr.{Instr}
-use Rattle.kernel_model.specs.Boxed.{IsBoxed, rewrite}
+use Rattle.graft_code.specs.declared.Instr.{Instr}
+use Rattle.graft_code.specs.Boxed.{IsBoxed, rewrite}
 
 -- what the rewriter makes is boxed
 abbrev pub RewrittenIsBoxed : Type 0

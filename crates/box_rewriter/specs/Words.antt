@@ -1,12 +1,12 @@
 -- Words of the rewriter's parts.
 use Rattle.std.specs.Prelude.{◌≡◌, ℕ, suc, ◌≤◌, true, cond, List, [], ◌∷◌, length, slice_index, Option, None, Some}
 use Rattle.std.specs.List.{list_all}
-use Rattle.kernel_model.specs.declared.Instr.{Instr}
-use Rattle.kernel_model.specs.declared.Op.TheVariants.{Andi, Or}
-use Rattle.kernel_model.specs.Instructions.{fits}
-use Rattle.kernel_model.specs.World.{Image}
-use Rattle.kernel_model.specs.Boxed.{RewriteFault, IsBoxed, access_width, is_jump, boxed_place}
-use Rattle.kernel_model.specs.Boxed.{boxed_access, instr, rewrite_fault_at}
+use Rattle.graft_code.specs.declared.Instr.{Instr}
+use Rattle.graft_code.specs.declared.Op.TheVariants.{Andi, Or}
+use Rattle.graft_code.specs.Instructions.{fits}
+use Rattle.graft_code.specs.World.{Image}
+use Rattle.graft_code.specs.Boxed.{RewriteFault, IsBoxed, access_width, is_jump, boxed_place}
+use Rattle.graft_code.specs.Boxed.{boxed_access, instr, rewrite_fault_at}
 
 -- what a boxed image keeps: at most 1,024 instructions, each of which can be encoded, boxed, and at
 -- most 4,096 data bytes

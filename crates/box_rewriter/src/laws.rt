@@ -1,6 +1,6 @@
 //! The laws of the rewriter. A call of one brings its statement into a proof.
 
-ghost use Rattle.kernel_model.specs.Claims.{Rewriting};
+ghost use Rattle.graft_code.specs.SandboxClaims.{Rewriting};
 ghost use Rattle.box_rewriter.specs.Laws.{RewrittenIsBoxed};
 
 /// What the rewriter makes is boxed.

@@ -4,21 +4,20 @@
 ghost use Rattle.std.specs.Prelude.{◌≡◌, ℕ, ◌+◌, ◌*◌, ◌++◌, ◌<◌, ◌≤◌, [], ◌∷◌, true, Ok, None};
 ghost use Rattle.std.specs.Prelude.{Some, length, slice_index, IfOk, IfErr, OnOk, MatchOption};
 ghost use Rattle.std.specs.List.{list_all, flat_map};
-ghost use Rattle.kernel_model.specs.Instructions.{fits};
-ghost use Rattle.kernel_model.specs.Boxed as spec;
-ghost use Rattle.kernel_model.specs.Boxed.{IsBoxed};
+ghost use Rattle.graft_code.specs.Instructions.{fits};
+ghost use Rattle.graft_code.specs.Boxed as spec;
+ghost use Rattle.graft_code.specs.Boxed.{IsBoxed};
 ghost use Rattle.box_rewriter.specs.Faults.{IsFound, Refuses};
 ghost use Rattle.box_rewriter.specs.Words.{ArePlaces, boxed_by, first_from, masked_access};
 
-use gm_image::RawImage;
-use gm_isa::{access_mask, ends_well, is_jump, names_register};
+use gm_image::{RawImage, access_mask, ends_well, is_jump, names_register};
 use std::alloc::{AllocError, Global};
 use std::marker::Model;
 use thiserror::Error;
 
 pub mod laws;
 
-pub use gm_isa::{Instr, Op};
+pub use gm_image::{Instr, Op};
 
 /// The most instructions of boxed code.
 pub const MAX_CODE: u32 = 1024;
@@ -61,7 +60,7 @@ pub struct BoxedCode {
 }
 
 impl Model for BoxedCode {
-    ghost use Rattle.kernel_model.specs.World.{Image, plain_image};
+    ghost use Rattle.graft_code.specs.World.{Image, plain_image};
     ghost use Rattle.box_rewriter.specs.Words.{IsBoxedImage};
 
     ghost Value = { Image };

@@ -1,9 +1,9 @@
 -- What verified code keeps.
 use Rattle.std.specs.Prelude.{◌≡◌, ◌≤◌, true, List, length}
 use Rattle.std.specs.List.{list_all}
-use Rattle.kernel_model.specs.declared.Instr.{Instr}
-use Rattle.kernel_model.specs.Instructions.{fits}
-use Rattle.kernel_model.specs.Boxed.{IsBoxed}
+use Rattle.graft_code.specs.declared.Instr.{Instr}
+use Rattle.graft_code.specs.Instructions.{fits}
+use Rattle.graft_code.specs.Boxed.{IsBoxed}
 
 -- at most 1,024 instructions, each of which can be encoded, and boxed
 pub record IsAccepted (code : List Instr) : Type 0 where

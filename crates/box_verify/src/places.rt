@@ -1,7 +1,7 @@
 //! Where the triples of code stand.
 
 ghost use Rattle.std.specs.Prelude.{◌≡◌, ℕ, ◌^◌, ◌<◌};
-ghost use Rattle.kernel_model.specs.Boxed as spec;
+ghost use Rattle.graft_code.specs.Boxed as spec;
 ghost use Rattle.box_verify.specs.Places.{is_masking};
 
 use gm_isa::{Instr, Op, access_mask};

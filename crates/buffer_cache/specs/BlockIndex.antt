@@ -1,6 +1,6 @@
 -- The index from blocks to frames: an entry for each block that a disk can have.
 use Rattle.std.specs.Prelude.{◌≡◌, ℕ, ◌<◌, List, length, slice_index, Option, Some}
-use Rattle.kernel_model.specs.declared.FrameRow.{FrameRow}
+use Rattle.kernel_data.specs.declared.FrameRow.{FrameRow}
 use Rattle.buffer_cache.specs.Frames.{row_at}
 
 -- The entry of the block of each frame in use is that frame. An entry may name a frame that holds

@@ -4,7 +4,7 @@ use Rattle.std.specs.Prelude.{◌++◌, length, map, filter, slice_index_or, sli
 use Rattle.std.specs.Prelude.{Option, Some, None}
 use Rattle.std.specs.List.{count_by}
 use Rattle.std.specs.Option.{is_some}
-use Rattle.kernel_model.specs.declared.FrameRow.{FrameRow}
+use Rattle.kernel_data.specs.declared.FrameRow.{FrameRow}
 
 -- the cache: what each of 64 frames holds, the frames in use, oldest first, and how many frames
 -- there are

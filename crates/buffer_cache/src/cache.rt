@@ -5,7 +5,7 @@ ghost use Rattle.std.specs.Prelude.{take, drop, replicate, Option, Some, None, I
 ghost use Rattle.std.specs.Prelude.{slice_index};
 ghost use Rattle.std.specs.List.{position};
 ghost use Rattle.std.specs.Option.{is_none};
-ghost use Rattle.kernel_model.specs.declared.FrameRow.{FrameRow as Row};
+ghost use Rattle.kernel_data.specs.declared.FrameRow.{FrameRow as Row};
 ghost use Rattle.buffer_cache.specs.Frames.{filled_row};
 
 use crate::frames::{
@@ -13,7 +13,7 @@ use crate::frames::{
 };
 use crate::index::{BLOCKS, find_frame, first_index, lead};
 use arrayvec::ArrayVec;
-use kernel_model::{BLOCK_BYTES, FRAMES, FrameRow};
+use kernel_data::{BLOCK_BYTES, FRAMES, FrameRow};
 use ram_space::Ram;
 use std::marker::Model;
 

@@ -5,11 +5,11 @@ ghost use Rattle.std.specs.Prelude.{length, take, filter, map, cond, Some, None,
 ghost use Rattle.std.specs.Prelude.{slice_index, slice_set, option_map, remove, [], ◌∷◌, ◌++◌};
 ghost use Rattle.std.specs.List.{position};
 ghost use Rattle.std.specs.Option.{is_none, is_some};
-ghost use Rattle.kernel_model.specs.declared.FrameRow.{FrameRow as Row};
+ghost use Rattle.kernel_data.specs.declared.FrameRow.{FrameRow as Row};
 ghost use Rattle.buffer_cache.specs.Frames.{newest, uses, exchanged, handed, holds, row_at};
 
 use arrayvec::ArrayVec;
-use kernel_model::{FRAMES, FrameRow};
+use kernel_data::{FRAMES, FrameRow};
 
 /// Rows of frames that aren't in use.
 pub(crate) fn no_rows() -> [Option<FrameRow>; FRAMES]

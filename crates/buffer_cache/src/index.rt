@@ -4,12 +4,12 @@ ghost use Rattle.std.specs.Prelude.{◌≡◌, ℕ, ◌<◌, true, false, IfSome
 ghost use Rattle.std.specs.Prelude.{slice_set};
 ghost use Rattle.std.specs.List.{position};
 ghost use Rattle.std.specs.Option.{is_some};
-ghost use Rattle.kernel_model.specs.declared.FrameRow.{FrameRow as Row};
+ghost use Rattle.kernel_data.specs.declared.FrameRow.{FrameRow as Row};
 ghost use Rattle.buffer_cache.specs.Frames.{holds, row_at};
 ghost use Rattle.buffer_cache.specs.BlockIndex.{IsIndex};
 
 use crate::frames::is_holding;
-use kernel_model::FrameRow;
+use kernel_data::FrameRow;
 
 /// The blocks that a disk can have: each has an entry, so that one look is enough.
 pub(crate) const BLOCKS: usize = 4096;

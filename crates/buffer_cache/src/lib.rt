@@ -7,6 +7,3 @@ mod frames;
 mod index;
 
 pub use cache::Cache;
-
-#[cfg(test)]
-mod tests;

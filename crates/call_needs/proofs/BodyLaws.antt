@@ -1,5 +1,7 @@
 -- What an answer gives is a range of memory.
-use Rattle.std.proofs.Common.{◌≡◌, ℕ, ◌+◌, ◌-◌, ◌*◌, ◌<◌, ◌≤◌, true, List, [], Option, None, Some, min, length, get_or, take, drop, map, sym, ap, ◌∙◌, refl, arith, length-drop, length-take-le, zero, suc, ◌∷◌, ◌++◌}
+use Rattle.std.proofs.Common.{◌≡◌, ℕ, ◌+◌, ◌-◌, ◌*◌, ◌<◌, ◌≤◌, true, List, [], Option, None, Some}
+use Rattle.std.proofs.Common.{min, length, get_or, take, drop, map, sym, ap, ◌∙◌, refl, arith}
+use Rattle.std.proofs.Common.{length-drop, length-take-le, zero, suc, ◌∷◌, ◌++◌}
 use Rattle.std.specs.List.{range_with_len, slice_index, slice_range}
 use Rattle.std.proofs.lemmas.Bool.Decides.{nat_tests}
 use Rattle.std.proofs.lemmas.Grind.{same_number_lists}
@@ -9,7 +11,7 @@ use Rattle.kernel_model.specs.declared.FrameRow.{FrameRow}
 use Rattle.kernel_model.specs.Fetch.{bytes_of}
 use Rattle.kernel_model.specs.Levels.{base_of}
 use Rattle.kernel_model.specs.Runs.{segment_of}
-use Rattle.buffer_cache.specs.Frames.{Frames, in_use, row_at}
+use Rattle.kernel_state.specs.Frames.{Frames, in_use, row_at}
 use Rattle.kernel_state.specs.CacheViews.{cache_value, frame_bytes, frame_value}
 use Rattle.kernel_state.specs.Stores.{body_at}
 use Rattle.std.specs.Option.{is_some}
@@ -32,7 +34,8 @@ of_range xs a n k less =
     get_or-take ((a + n) - a) (drop a xs) k 0 among ∙ get_or-drop a xs k 0
 
 segment_bytes : (ram : List ℕ) (base place n : ℕ) → place + n ≤ 4096 → base + 4096 ≤ length ram
-    → map (segment_of base (λ a. slice_index ram a)) (range_with_len place n) ≡ slice_range ram (base + place) (base + place + n)
+    → map (segment_of base (λ a. slice_index ram a)) (range_with_len place n)
+    ≡ slice_range ram (base + place) (base + place + n)
 segment_bytes ram base place n few inside =
     let bytes = segment_of base (λ a. slice_index ram a) in
     let long = length-map-range_with_len bytes place n in
@@ -50,7 +53,8 @@ segment_bytes ram base place n few inside =
 
 -- the bytes that an answer of process p gives
 pub body_is : (ram : List ℕ) (p : ℕ) (registers : List ℕ) → length ram ≡ 524288 → p < 16
-    → body_at ram p registers ≡ slice_range ram (base_of p 0 + 2048) (base_of p 0 + 2048 + min (slice_index registers 0) 512)
+    → body_at ram p registers ≡ slice_range ram
+    (base_of p 0 + 2048) (base_of p 0 + 2048 + min (slice_index registers 0) 512)
 body_is ram p registers size process =
     segment_bytes ram (base_of p 0) 2048 (min (slice_index registers 0) 512) (omega arith) (omega arith)
 
@@ -76,12 +80,14 @@ row_bytes ram f None used = cc
 row_bytes ram f (Some r) used = refl
 
 -- they are 512 bytes of memory
-pub bytes_of_frame : (c : Frames) (ram : List ℕ) (f : ℕ) → in_use f c ≡ true → bytes_of (cache_value c ram) f ≡ slice_range ram (512 * f) (512 * f + 512)
+pub bytes_of_frame : (c : Frames) (ram : List ℕ) (f : ℕ) → in_use f c ≡ true →
+    bytes_of (cache_value c ram) f ≡ slice_range ram (512 * f) (512 * f + 512)
 bytes_of_frame c ram f used = row_bytes ram f (row_at c.rows f) used
 
 -- bytes off to off + len of it
 pub bytes_in_frame : (c : Frames) (ram : List ℕ) (f off len : ℕ) → in_use f c ≡ true → off + len ≤ 512
-    → slice_range (bytes_of (cache_value c ram) f) off (off + len) ≡ slice_range ram (512 * f + off) (512 * f + off + len)
+    → slice_range (bytes_of (cache_value c ram) f) off (off + len)
+    ≡ slice_range ram (512 * f + off) (512 * f + off + len)
 bytes_in_frame c ram f off len used inside =
     ap (λ (x : List ℕ). slice_range x off (off + len)) (row_bytes ram f (row_at c.rows f) used)
     ∙ part_of_range ram (512 * f) 512 off len inside

@@ -34,7 +34,8 @@ most_left Yield w p = omega arith
 most_left (Read fd i off len) w p = omega arith
 most_left _ w p = omega arith
 
-pub may_come : (top : ℕ) (v : World) (s : Objects) (bits p : ℕ) (c k : SysCall) → k ≡ c → lives s.things.queue p ≡ true →
+pub may_come : (top : ℕ) (v : World) (s : Objects) (bits p : ℕ) (c k : SysCall) → k ≡ c →
+    lives s.things.queue p ≡ true →
     ((table : ImageTable) → TellsImages bits table → None ≡ call_refusal top v table p c) →
     IsDue (plain_upto top) v s p (stage k 0)
 may_come top v s bits p c k same alive granted =

@@ -12,24 +12,24 @@ use Rattle.kernel_model.specs.Fetch as fetches
 use Rattle.kernel_model.specs.Fetch.{Fetched, Got, Failed, new_frame, replaced, read_block, place_block, chosen_by}
 use Rattle.kernel_model.specs.FilePieces.{with_cache}
 use Rattle.kernel_model.specs.Sound.{HasWholeBlocks}
-use Rattle.buffer_cache.specs.Frames.{in_use}
-use Rattle.vino_base.specs.declared.streams.Failed.{Failed as DiskFailed}
-use Rattle.vino_base.specs.Disks.{DiskSeen}
-use Rattle.disk_log.specs.Calls.{Knows, CallsExtend}
+use Rattle.kernel_state.specs.Frames.{in_use}
+use Rattle.kernel_state.specs.declared.Failed.{Failed as DiskFailed}
+use Rattle.kernel_state.specs.Disks.{DiskSeen}
+use Rattle.kernel_state.specs.Calls.{Knows, CallsExtend}
 use Rattle.kernel_state.specs.declared.Store.{Store}
 use Rattle.kernel_state.specs.Stores.{world_of_store, objects_of, cache_of, queue_of, policies_of, SegmentsStay}
 
 -- ---- moments
 
 -- a store, a disk, and the calls of the disk that were made
-pub record Moment (S : Type 0) : Type 0 where
+pub record StoreMoment (S : Type 0) : Type 0 where
   pub store : S
   pub disk : DiskSeen
   pub log : List Bool
 
 -- the moment of these three
-abbrev pub moment : {S : Type 0} → S → DiskSeen → List Bool → Moment S
-moment store disk log = record { store = store; disk = disk; log = log }
+abbrev pub store_moment : {S : Type 0} → S → DiskSeen → List Bool → StoreMoment S
+store_moment store disk log = record { store = store; disk = disk; log = log }
 
 -- ---- what came of a fetch
 
@@ -76,7 +76,7 @@ abbrev pub NamesFrame : {B : Type 0} {P : _} → Store B P → Option (List ℕ)
 NamesFrame s answer = IfSome answer (λ a. is_some ((cache_of s).frame (slice_index a 0)) ≡ true)
 
 -- a block may be fetched for process p with this answer, once these calls of the disk were made
-pub record FetchReady {B : Type 0} {P : _} (m : Moment (Store B P)) (p : ℕ)
+pub record FetchReady {B : Type 0} {P : _} (m : StoreMoment (Store B P)) (p : ℕ)
     (answer : Option (List ℕ)) (calls : List Bool) : Type 0 where
   pub alive : lives (queue_of m.store) p ≡ true
   pub disk : m.store.size ≡ m.disk.size
@@ -107,7 +107,7 @@ FetchCameBy fetch before after result cache log =
 -- A fetch took the one moment to the other: over the blocks that the disk told, or else over some
 -- whole ones, as the definitions have it. The log goes on with the calls of the disk that it made.
 pub record FetchDone {B : Type 0} {P : _} (fetch : Blocks → List Bool → Fetched)
-    (old new : Moment (Store B P)) (result : Result ℕ DiskFailed) : Type 0 where
+    (old new : StoreMoment (Store B P)) (result : Result ℕ DiskFailed) : Type 0 where
   pub does : FetchCameBy fetch old.disk.known new.disk.known result (cache_of new.store) new.log
   pub some : FetchMatchesSome (world_of_store old.store) fetch result (cache_of new.store) new.log
   pub keeps : FetchKeeps old.store new.store result new.log
@@ -116,7 +116,7 @@ pub record FetchDone {B : Type 0} {P : _} (fetch : Blocks → List Bool → Fetc
 -- the same of what follows the read of the block, of which all is said over whatever blocks `Holds`
 -- is true of
 pub record PlaceDone {B : Type 0} {P : _} (place : Blocks → List Bool → Fetched)
-    (Holds : Blocks → Type 0) (old new : Moment (Store B P)) (result : Result ℕ DiskFailed) :
+    (Holds : Blocks → Type 0) (old new : StoreMoment (Store B P)) (result : Result ℕ DiskFailed) :
     Type 0 where
   pub outcome : (blocks : Blocks) (rest : List Bool) → Holds blocks →
       FetchLeft (place blocks (new.log ++ rest)) blocks result (cache_of new.store)

@@ -3,7 +3,7 @@ use Rattle.std.specs.Prelude.{◌≡◌, ℕ, ◌<◌, true, Option, Some, None,
 use Rattle.kernel_model.specs.declared.Refusal.{Refusal}
 use Rattle.kernel_model.specs.Needs.{frame_of_block, free_frame}
 use Rattle.kernel_model.specs.Policies.{victim_among}
-use Rattle.buffer_cache.specs.Frames.{Frames, in_use}
+use Rattle.kernel_state.specs.Frames.{Frames, in_use}
 use Rattle.kernel_state.specs.declared.Store.{Store}
 use Rattle.kernel_state.specs.Stores.{world_of_store, cache_of, policies_of}
 use Rattle.call_needs.specs.declared.plans.Plan.{Plan}

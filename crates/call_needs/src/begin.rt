@@ -14,9 +14,8 @@ ghost use Rattle.call_needs.specs.Works.{IsDue, begun, stage_of, stage_granted};
 
 use crate::Work;
 use arrayvec::ArrayVec;
-use graft_points::Policy;
 use kernel_model::{BLOCK_BYTES, BareCall, Refusal};
-use kernel_state::Store;
+use kernel_state::{Policy, Store};
 
 /// The highest point at which a graft may stand by the plain table.
 pub const TOP_POINT: u32 = 5;
@@ -44,7 +43,7 @@ pub fn early_upto<const TOP: u32, B: Policy>(
     if let Some(refusal) = refusal_upto::<TOP, B>(store, images, p, call, bytes.as_slice()) {
         return Err(refusal);
     }
-    work.begin(p, call, bytes);
+    work.set_call(p, call, bytes);
     Ok(())
 }
 
@@ -65,18 +64,31 @@ pub fn refusal_upto<const TOP: u32, B: Policy>(
         BareCall::Exit => unless(p != 0, Refusal::Denied),
         BareCall::OpenName => unless(store.named(bytes).is_some(), Refusal::NoFile),
         BareCall::CloseFd(fd) => unless(fd <= 3, Refusal::BadFd),
-        BareCall::Read(fd, _, off, len) => range_refusal(fd, off, len),
-        BareCall::Write(fd, _, off) => range_refusal(fd, off, bytes.len() as u32),
+        BareCall::Read {
+            descriptor: fd,
+            offset: off,
+            length: len,
+            ..
+        } => range_refusal(fd, off, len),
+        BareCall::Write {
+            descriptor: fd,
+            offset: off,
+            ..
+        } => range_refusal(fd, off, bytes.len() as u32),
         BareCall::TakeLock(u) | BareCall::FreeLock(u) => unless(u <= 15, Refusal::BadIndex),
         BareCall::Poke(k, _) | BareCall::Peek(k) => unless(k <= 3, Refusal::BadIndex),
-        BareCall::Tune(kind, _, _) => policy_refusal(p, kind <= 2),
+        BareCall::Tune { kind, .. } => policy_refusal(p, kind <= 2),
         BareCall::Choose(kind, j) => policy_refusal(p, kind <= 2 && j < policies_of_kind(kind)),
-        BareCall::Give(q, _, _) => unless(q <= 15, Refusal::NoProcess),
-        BareCall::Install(pt, image, limit) => install_refusal::<TOP>(images, pt, image, limit),
-        BareCall::Remove(pt) | BareCall::Fund(pt, _, _) | BareCall::Bill(pt) => {
+        BareCall::Give { receiver: q, .. } => unless(q <= 15, Refusal::NoProcess),
+        BareCall::Install {
+            point: pt,
+            slot: image,
+            limit,
+        } => install_refusal::<TOP>(images, pt, image, limit),
+        BareCall::Remove(pt) | BareCall::Fund { point: pt, .. } | BareCall::Bill(pt) => {
             unless(pt <= TOP, Refusal::BadPoint)
         }
-        BareCall::Serve(_) | BareCall::StreamRead(_, _, _, _) | BareCall::StreamWrite(_, _, _) => {
+        BareCall::Serve(_) | BareCall::StreamRead { .. } | BareCall::StreamWrite { .. } => {
             Some(Refusal::BadPoint)
         }
         BareCall::Spawn | BareCall::Yield | BareCall::Sync => None,

@@ -5,14 +5,12 @@ ghost use Rattle.std.specs.Prelude.{◌≡◌, ◌+◌, ◌*◌, ◌<◌, ◌≤
 ghost use Rattle.kernel_model.specs.Fetch.{bytes_of};
 ghost use Rattle.kernel_model.specs.Levels.{base_of};
 ghost use Rattle.kernel_model.specs.Machine.{FED_AT};
-ghost use Rattle.buffer_cache.specs.Frames.{in_use};
+ghost use Rattle.kernel_state.specs.Frames.{in_use};
 ghost use Rattle.kernel_state.specs.Stores.{body_at, cache_of};
 
 use arrayvec::ArrayVec;
-use graft_points::Policy;
 use kernel_model::BLOCK_BYTES;
-use kernel_state::Store;
-use ram_space::RAM_BYTES;
+use kernel_state::{Policy, RAM_BYTES, Store};
 
 /// Where the segment of the outermost level of process 0 begins.
 const FIRST_SEGMENT: u32 = 262_144;

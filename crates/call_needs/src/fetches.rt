@@ -3,19 +3,16 @@
 ghost use Rattle.std.specs.Prelude.{◌≡◌, ◌<◌, true, false, [], ◌∷◌, None, ⊤};
 ghost use Rattle.kernel_model.specs.Needs.{frame_of_block};
 ghost use Rattle.kernel_model.specs.Fetch.{chosen_by};
-ghost use Rattle.buffer_cache.specs.Frames.{in_use};
+ghost use Rattle.kernel_state.specs.Frames.{in_use};
 ghost use Rattle.kernel_state.specs.Stores.{cache_of};
-ghost use Rattle.call_needs.specs.Fetching.{FetchReady, FetchDone, PlaceDone, NamesFrame, moment};
+ghost use Rattle.call_needs.specs.Fetching.{FetchReady, FetchDone, PlaceDone, NamesFrame, store_moment};
 ghost use Rattle.call_needs.specs.Fetching.{fetch_of, fetch_ahead_of, load_of, place_of, evict_of};
 ghost use Rattle.call_needs.specs.Planning.{HasRoomFrame, IsPlan, IsRoomIn};
 
 use crate::Access;
 use crate::bodies::frame_bytes;
 use crate::plans::{Place, Plan, Room};
-use disk_log::DiskLog;
-use graft_points::Policy;
-use kernel_state::Store;
-use vino_base::{Disk, Failed};
+use kernel_state::{Disk, DiskLog, Failed, Policy, Store};
 
 /// The block of a plan, for an access: the frame that holds it becomes the newest, or the block is
 /// read into the frame that the plan has for it. An answer names the frame in use that is evicted in
@@ -27,11 +24,11 @@ pub fn fetch<B: Policy, D: Disk>(
     r: Access,
     plan: Plan,
 ) -> Result<u8, Failed>
-    requires ready { FetchReady (moment store.old (D.seen disk.old) log.old) r.p r.answer [] }
+    requires ready { FetchReady (store_moment store.old (D.seen disk.old) log.old) r.p r.answer [] }
     requires plan { IsPlan store.old plan }
     ensures { FetchDone (fetch_of store.old r.p plan.block r.answer)
-        (moment store.old (D.seen disk.old) log.old)
-        (moment store.new (D.seen disk.new) log.new) result }
+        (store_moment store.old (D.seen disk.old) log.old)
+        (store_moment store.new (D.seen disk.new) log.new) result }
 {
     match plan.place {
         Place::Held(f) => {
@@ -54,11 +51,11 @@ pub fn fetch_ahead<B: Policy, D: Disk>(
     r: Access,
     plan: Plan,
 ) -> Result<u8, Failed>
-    requires ready { FetchReady (moment store.old (D.seen disk.old) log.old) r.p r.answer [] }
+    requires ready { FetchReady (store_moment store.old (D.seen disk.old) log.old) r.p r.answer [] }
     requires plan { IsPlan store.old plan }
     ensures { FetchDone (fetch_ahead_of store.old r.p plan.block r.answer)
-        (moment store.old (D.seen disk.old) log.old)
-        (moment store.new (D.seen disk.new) log.new) result }
+        (store_moment store.old (D.seen disk.old) log.old)
+        (store_moment store.new (D.seen disk.new) log.new) result }
 {
     match plan.place {
         Place::Held(f) => Ok(f),
@@ -86,14 +83,14 @@ fn load<B: Policy, D: Disk>(
     w: Wanted,
     room: Room,
 ) -> Result<u8, Failed>
-    requires ready { FetchReady (moment store.old (D.seen disk.old) log.old) w.p w.answer [] }
+    requires ready { FetchReady (store_moment store.old (D.seen disk.old) log.old) w.p w.answer [] }
     requires block { w.b < store.old.size }
     requires missing { frame_of_block (cache_of store.old) w.b ≡ None }
     requires room { IsRoomIn store.old room }
     requires frame { HasRoomFrame store.old.cache room }
     ensures { FetchDone (load_of store.old w.p w.b w.answer)
-        (moment store.old (D.seen disk.old) log.old)
-        (moment store.new (D.seen disk.new) log.new) result }
+        (store_moment store.old (D.seen disk.old) log.old)
+        (store_moment store.new (D.seen disk.new) log.new) result }
 {
     match log.read(disk, w.b) {
         Ok(()) => {
@@ -114,15 +111,15 @@ fn place<B: Policy, D: Disk>(
     w: Wanted,
     room: Room,
 ) -> Result<u8, Failed>
-    requires ready { FetchReady (moment store.old (D.seen disk.old) log.old) w.p w.answer
+    requires ready { FetchReady (store_moment store.old (D.seen disk.old) log.old) w.p w.answer
         (false ∷ []) }
     requires block { w.b < store.old.size }
     requires missing { frame_of_block (cache_of store.old) w.b ≡ None }
     requires room { IsRoomIn store.old room }
     requires frame { HasRoomFrame store.old.cache room }
     ensures { PlaceDone (place_of store.old w.p w.b w.answer) (λ blocks. blocks w.b ≡ D.lent disk.old)
-        (moment store.old (D.seen disk.old) log.old)
-        (moment store.new (D.seen disk.new) log.new) result }
+        (store_moment store.old (D.seen disk.old) log.old)
+        (store_moment store.new (D.seen disk.new) log.new) result }
 {
     match room {
         Room::Free(f) => {
@@ -165,15 +162,15 @@ fn evict<B: Policy, D: Disk>(
     w: Wanted,
     v: Victim,
 ) -> Result<u8, Failed>
-    requires ready { FetchReady (moment store.old (D.seen disk.old) log.old) w.p w.answer
+    requires ready { FetchReady (store_moment store.old (D.seen disk.old) log.old) w.p w.answer
         (false ∷ []) }
     requires block { w.b < store.old.size }
     requires missing { frame_of_block (cache_of store.old) w.b ≡ None }
     requires frame { in_use v.frame store.old.cache ≡ true }
     requires candidate { in_use v.candidate store.old.cache ≡ true }
     ensures { PlaceDone (evict_of store.old w.p w.b v.frame v.candidate (D.lent disk.old))
-        (λ blocks. ⊤) (moment store.old (D.seen disk.old) log.old)
-        (moment store.new (D.seen disk.new) log.new) result }
+        (λ blocks. ⊤) (store_moment store.old (D.seen disk.old) log.old)
+        (store_moment store.new (D.seen disk.new) log.new) result }
 {
     match store.dirty_block(v.frame) {
         Some(old) => {

@@ -3,13 +3,12 @@
 ghost use Rattle.std.specs.Prelude.{◌≡◌, ◌≤◌, ◌<◌, ◌+◌, ◌++◌, true, Some, None, drop, length};
 ghost use Rattle.std.specs.Prelude.{slice_range, take, is_some, vec_capacity, IfSome, IfNone};
 ghost use Rattle.kernel_model.specs.Fetch.{bytes_of};
-ghost use Rattle.buffer_cache.specs.Frames.{in_use};
+ghost use Rattle.kernel_state.specs.Frames.{in_use};
 ghost use Rattle.kernel_state.specs.Stores.{body_at, cache_of};
 
 use crate::bodies::{body_len, body_place, frame_bytes};
-use graft_points::Policy;
 use kernel_model::BLOCK_BYTES;
-use kernel_state::Store;
+use kernel_state::{Policy, Store};
 use std::marker::Model;
 
 /// So few bytes are copied together with those behind them, as many as these: then what is done doesn't

@@ -5,8 +5,7 @@ ghost use Rattle.std.specs.Prelude.{◌≡◌, ℕ, ◌<◌, true};
 ghost use Rattle.kernel_model.specs.Policies.{lives};
 ghost use Rattle.kernel_state.specs.Stores.{queue_of};
 
-use graft_points::Policy;
-use kernel_state::Store;
+use kernel_state::{Policy, Store};
 
 /// Each process that lives has a number below 16.
 pub fn living_are_numbered<B: Policy>(store: &Store<B>)

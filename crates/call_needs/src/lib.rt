@@ -81,7 +81,7 @@ impl Work {
 
     /// A call takes the place of what stood here, before its first piece. Only the bytes that there
     /// are are copied.
-    pub fn begin(&mut self, caller: u8, call: BareCall, bytes: &ArrayVec<u8, BLOCK_BYTES>)
+    pub fn set_call(&mut self, caller: u8, call: BareCall, bytes: &ArrayVec<u8, BLOCK_BYTES>)
         ensures { self.new ≡ begun caller call bytes.now }
     {
         self.caller = caller;

@@ -6,7 +6,7 @@ ghost use Rattle.kernel_model.specs.declared.Mode.TheVariants.{Exclusive};
 ghost use Rattle.kernel_model.specs.Policies.{lives};
 ghost use Rattle.kernel_model.specs.Pieces.{read_fits};
 ghost use Rattle.kernel_model.specs.Needs as spec;
-ghost use Rattle.buffer_cache.specs.Frames.{in_use};
+ghost use Rattle.kernel_state.specs.Frames.{in_use};
 ghost use Rattle.kernel_state.specs.Places.{HasDescriptor};
 ghost use Rattle.kernel_state.specs.Stores.{world_of_store, objects_of, cache_of, queue_of, policies_of};
 ghost use Rattle.call_needs.specs.Needing.{all_of, block_meant, fetch_needs_of};
@@ -16,9 +16,8 @@ ghost use Rattle.call_needs.specs.Works.{IsPlainDue, call_of, stage_of};
 use crate::plans::{Plan, plan_ahead, plan_block};
 use crate::{Access, Work};
 use arrayvec::ArrayVec;
-use graft_points::Policy;
 use kernel_model::{BareCall, Kind, Mode, Need, Object};
-use kernel_state::Store;
+use kernel_state::{Policy, Store};
 use std::marker::Model;
 
 /// The most objects that a piece needs: those of `exit`.
@@ -209,7 +208,12 @@ pub fn need<B: Policy>(work: &Work, store: &Store<B>, needs: &mut Needs)
         BareCall::Yield => yield_needs(work.piece, store, needs),
         BareCall::OpenName => needs.files(p),
         BareCall::CloseFd(fd) => needs.exclusive(Object::OpenFile(p, fd as u8)),
-        BareCall::Read(fd, i, off, len) => {
+        BareCall::Read {
+            descriptor: fd,
+            block: i,
+            offset: off,
+            length: len,
+        } => {
             let answer = None;
             read_needs(
                 work.piece,
@@ -225,7 +229,11 @@ pub fn need<B: Policy>(work: &Work, store: &Store<B>, needs: &mut Needs)
                 needs,
             )
         }
-        BareCall::Write(fd, i, off) => {
+        BareCall::Write {
+            descriptor: fd,
+            block: i,
+            offset: off,
+        } => {
             let len = work.bytes.as_slice().len() as u32;
             let answer = None;
             needs.shared(Object::OpenFile(p, fd as u8));
@@ -246,15 +254,19 @@ pub fn need<B: Policy>(work: &Work, store: &Store<B>, needs: &mut Needs)
         BareCall::FreeLock(u) => needs.exclusive(Object::Lock(u as u8)),
         BareCall::Poke(k, _) => needs.exclusive(Object::Cell(p, k as u8)),
         BareCall::Peek(k) => needs.shared(Object::Cell(p, k as u8)),
-        BareCall::Tune(kind, _, _) | BareCall::Choose(kind, _) => {
+        BareCall::Tune { kind, .. } | BareCall::Choose(kind, _) => {
             needs.exclusive(Object::Pol(kind as u8))
         }
-        BareCall::Give(q, kind, n) => give_needs(store, p, q as u8, kind, n, needs),
-        BareCall::Install(pt, _, _) | BareCall::Bill(pt) => {
+        BareCall::Give {
+            receiver: q,
+            kind,
+            amount: n,
+        } => give_needs(store, p, q as u8, kind, n, needs),
+        BareCall::Install { point: pt, .. } | BareCall::Bill(pt) => {
             needs.exclusive(Object::Graft(p, pt as u8))
         }
-        BareCall::Remove(pt) | BareCall::Fund(pt, _, _) => needs.point(store, p, pt as u8),
-        BareCall::Serve(_) | BareCall::StreamRead(_, _, _, _) | BareCall::StreamWrite(_, _, _) => {}
+        BareCall::Remove(pt) | BareCall::Fund { point: pt, .. } => needs.point(store, p, pt as u8),
+        BareCall::Serve(_) | BareCall::StreamRead { .. } | BareCall::StreamWrite { .. } => {}
     }
 }
 

@@ -8,9 +8,8 @@ ghost use Rattle.kernel_state.specs.Stores.{world_of_store, queue_of};
 ghost use Rattle.call_needs.specs.Needing.{block_meant};
 ghost use Rattle.call_needs.specs.Planning.{HasFrame, IsPlaceOf, IsPlan, block_planned, candidate_in};
 
-use graft_points::Policy;
 use kernel_model::{OpenRow, Refusal};
-use kernel_state::Store;
+use kernel_state::{Policy, Store};
 
 /// How a block is to be fetched from a store as it stands. What a fetch needs, what it asks and what
 /// it does follow from its plan. A plan is good until the store changes.

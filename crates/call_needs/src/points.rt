@@ -4,7 +4,7 @@ ghost use Rattle.std.specs.Prelude.{◌≡◌, ◌<◌, true, Some, Ok, length, 
 ghost use Rattle.kernel_model.specs.Policies.{frames_of};
 ghost use Rattle.kernel_model.specs.Pieces.{read_fits};
 ghost use Rattle.kernel_model.specs.Needs as spec;
-ghost use Rattle.buffer_cache.specs.Frames.{in_use};
+ghost use Rattle.kernel_state.specs.Frames.{in_use};
 ghost use Rattle.kernel_state.specs.Places.{HasDescriptor};
 ghost use Rattle.kernel_state.specs.Stores.{world_of_store, objects_of, cache_of, queue_of, policies_of};
 ghost use Rattle.call_needs.specs.Needing.{block_meant, fetch_ask_of};
@@ -13,9 +13,8 @@ ghost use Rattle.call_needs.specs.Works.{IsPlainDue, call_of, stage_of};
 
 use crate::plans::{Plan, plan_ahead, plan_block};
 use crate::{Access, Work};
-use graft_points::Policy;
 use kernel_model::{BareCall, Point};
-use kernel_state::Store;
+use kernel_state::{Policy, Store};
 
 /// The point that the next piece of a call asks, with its arguments.
 pub fn asks<B: Policy>(work: &Work, store: &Store<B>) -> Option<Point>
@@ -27,7 +26,12 @@ pub fn asks<B: Policy>(work: &Work, store: &Store<B>) -> Option<Point>
     let p = work.caller;
     match work.call {
         BareCall::Yield => turn_ask(work.piece, store),
-        BareCall::Read(fd, i, off, len) => {
+        BareCall::Read {
+            descriptor: fd,
+            block: i,
+            offset: off,
+            length: len,
+        } => {
             let answer = None;
             let access = Access {
                 p,
@@ -39,7 +43,11 @@ pub fn asks<B: Policy>(work: &Work, store: &Store<B>) -> Option<Point>
             };
             read_ask(work.piece, store, access)
         }
-        BareCall::Write(fd, i, off) => {
+        BareCall::Write {
+            descriptor: fd,
+            block: i,
+            offset: off,
+        } => {
             let len = work.bytes.as_slice().len() as u32;
             block_ask(store, p, fd as u8, i, off, len)
         }

@@ -4,3 +4,4 @@ pub mod ReadLaws
 pub mod WriteLaws
 pub mod LeftLaws
 pub mod ServesLaws
+pub mod Sides

@@ -1,12 +1,16 @@
 -- Lists of calls of the disk.
-use Rattle.std.proofs.Common.{◌≡◌, ℕ, ◌+◌, Bool, true, false, List, [], ◌∷◌, ◌++◌, length, refl, ◌∙◌, ap, append_assoc, length-append}
+use Rattle.std.proofs.Common.{◌≡◌, ℕ, ◌+◌, Bool, true, false, List, [], ◌∷◌, ◌++◌, length, refl}
+use Rattle.std.proofs.Common.{◌∙◌, ap, append_assoc, length-append}
 use Rattle.std.proofs.lemmas.List.{get_or_at}
 use Rattle.kernel_model.specs.Meaning.{disk_fails}
 use Rattle.call_needs.specs.Fetching.{has_failed}
 
 -- what the next call of the disk does
-pub fails_is : (log old rest : List Bool) (b : Bool) (n : ℕ) → log ≡ old ++ b ∷ [] → length old ≡ n → disk_fails (log ++ rest) n ≡ b
-fails_is log old rest b n is len = ap (λ w. disk_fails (w ++ rest) n) is ∙ ap (λ w. disk_fails w n) (append_assoc old (b ∷ []) rest) ∙ get_or_at old b rest false n len
+pub fails_is : (log old rest : List Bool) (b : Bool) (n : ℕ) → log ≡ old ++ b ∷ [] →
+    length old ≡ n → disk_fails (log ++ rest) n ≡ b
+fails_is log old rest b n is len =
+    ap (λ w. disk_fails (w ++ rest) n) is
+    ∙ ap (λ w. disk_fails w n) (append_assoc old (b ∷ []) rest) ∙ get_or_at old b rest false n len
 
 -- one more call
 pub length_more : (log old : List Bool) (b : Bool) (n : ℕ) → log ≡ old ++ b ∷ [] → length old ≡ n → length log ≡ n + 1

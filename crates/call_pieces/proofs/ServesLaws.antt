@@ -7,22 +7,23 @@ use Rattle.kernel_model.specs.World.{Blocks}
 use Rattle.kernel_model.specs.Meaning.{Stage, Piece}
 use Rattle.kernel_model.specs.Pieces.{piece_of}
 use Rattle.kernel_model.specs.FilePieces.{refuses}
-use Rattle.vino_base.specs.Disks.{DiskSeen}
-use Rattle.disk_log.specs.Calls.{Knows}
-use Rattle.disk_log.specs.Joined.{extends_none}
+use Rattle.kernel_state.specs.Disks.{DiskSeen}
+use Rattle.kernel_state.specs.Calls.{Knows}
+use Rattle.kernel_state.specs.Joined.{extends_none}
 use Rattle.kernel_state.specs.declared.Store.{Store}
 use Rattle.kernel_state.specs.Stores.{world_of_store, objects_of, queue_of, policies_of}
 use Rattle.call_needs.specs.declared.Work.{Work}
-use Rattle.call_needs.specs.Fetching.{Moment, moment}
+use Rattle.call_needs.specs.Fetching.{StoreMoment, store_moment}
 use Rattle.call_needs.specs.Works.{bare_stage_of, call_of}
 use Rattle.call_pieces.specs.declared.Next.{Next}
 use Rattle.call_pieces.specs.Queues.{queue_after}
-use Rattle.call_pieces.specs.Shared.{ComesAtOnce, EndsWithQueue, PieceKeeps, Serves, ServesLast, ServesWithQueue, piece_on, queue_on}
+use Rattle.call_pieces.specs.Shared.{ComesAtOnce, EndsWithQueue, PieceKeeps, Serves, ServesLast}
+use Rattle.call_pieces.specs.Shared.{ServesWithQueue, piece_on, queue_on}
 use Rattle.call_pieces.proofs.LeftLaws.{some_as, some_quick, some_refused}
 
 -- a piece by an equal one
 pub serves_as : {B : Type 0} {P : _} {queue : List QueueRow} (q r : Blocks → List Bool → Piece)
-    (old new : Moment (Store B P)) (gave : Option (List ℕ)) (next : Next) (t : Stage) →
+    (old new : StoreMoment (Store B P)) (gave : Option (List ℕ)) (next : Next) (t : Stage) →
     ((blocks : Blocks) (w : List Bool) → q blocks w ≡ r blocks w) →
     ServesWithQueue r queue old new gave next t → ServesWithQueue q queue old new gave next t
 serves_as q r old new gave next t is served =
@@ -61,9 +62,9 @@ pub serves_at_once : {B : Type 0} {P : _} {queue : List QueueRow} (q : Blocks �
     (r : Blocks → Piece) (old new : Store B P) (d : DiskSeen) (log : List Bool) (next : Next)
     (t : Stage) → log ≡ [] → ((blocks : Blocks) (w : List Bool) → q blocks w ≡ r blocks) →
     ComesAtOnce r queue old new next t →
-    ServesWithQueue q queue (moment old d log) (moment new d log) None next t
+    ServesWithQueue q queue (store_moment old d log) (store_moment new d log) None next t
 serves_at_once q r old new d log next t none is came =
-    serves_as q (λ blocks w. r blocks) (moment old d log) (moment new d log) None next t is
+    serves_as q (λ blocks w. r blocks) (store_moment old d log) (store_moment new d log) None next t is
     (record {
       does = λ blocks rest tells.
           let so = came.does blocks d.known tells in
@@ -85,9 +86,9 @@ pub serves_refused : {B : Type 0} {P : _} (q : Blocks → List Bool → Piece) (
     (d : DiskSeen) (log : List Bool) (why : Refusal) (t : Stage) → log ≡ [] →
     ((blocks : Blocks) (w : List Bool) → q blocks w ≡ refuses (objects_of s) blocks why) →
     PieceKeeps (queue_of s) s s (Next.Fails why) log →
-    Serves q (moment s d log) (moment s d log) None (Next.Fails why) t
+    Serves q (store_moment s d log) (store_moment s d log) None (Next.Fails why) t
 serves_refused q s d log why t none is keeps =
-    serves_as q (λ blocks w. refuses (objects_of s) blocks why) (moment s d log) (moment s d log)
+    serves_as q (λ blocks w. refuses (objects_of s) blocks why) (store_moment s d log) (store_moment s d log)
     None (Next.Fails why) t is
     (record {
       does = λ blocks rest tells.
@@ -109,7 +110,7 @@ pub last_refused : {B : Type 0} {P : _} (q : Blocks → List Bool → Piece) (s 
     (d : DiskSeen) (log : List Bool) (why : Refusal) → log ≡ [] →
     ((blocks : Blocks) (w : List Bool) → q blocks w ≡ refuses (objects_of s) blocks why) →
     PieceKeeps (queue_of s) s s (Next.Fails why) log →
-    ServesLast q (moment s d log) (moment s d log) (Next.Fails why)
+    ServesLast q (store_moment s d log) (store_moment s d log) (Next.Fails why)
 last_refused q s d log why none is keeps =
     record {
       does = λ t. (serves_refused q s d log why t none is keeps).does;
@@ -121,7 +122,7 @@ last_refused q s d log why none is keeps =
 
 -- the last piece of a call, before any stage
 pub serves_last : {B : Type 0} {P : _} (q : Blocks → List Bool → Piece)
-    (old new : Moment (Store B P)) (next : Next) (t : Stage) → ServesLast q old new next →
+    (old new : StoreMoment (Store B P)) (next : Next) (t : Stage) → ServesLast q old new next →
     Serves q old new None next t
 serves_last q old new next t last =
     record { does = last.does t; some = last.some t; keeps = last.keeps; calls = last.calls }
@@ -143,7 +144,7 @@ comes_of_ends r old new next t ended =
 
 -- the piece of a call of this name, where this work stands
 abbrev pub NamedServes : {B : Type 0} {P : _} → Work → Option (List ℕ) →
-    (old new : Moment (Store B P)) → Option (List ℕ) → Next → SysCall → Stage → Type 0
+    (old new : StoreMoment (Store B P)) → Option (List ℕ) → Next → SysCall → Stage → Type 0
 NamedServes w answer old new gave next k t =
     let s = old.store in
     ServesWithQueue (λ blocks io. piece_of k w.piece (world_of_store s) (objects_of s) blocks
@@ -152,7 +153,7 @@ NamedServes w answer old new gave next k t =
 
 -- a piece of a call by its name
 pub by_name : {B : Type 0} {P : _} (w : Work) (answer : Option (List ℕ))
-    (old new : Moment (Store B P)) (gave : Option (List ℕ)) (next : Next) (k : SysCall)
+    (old new : StoreMoment (Store B P)) (gave : Option (List ℕ)) (next : Next) (k : SysCall)
     (t : SysCall → Stage) → call_of w ≡ k → NamedServes w answer old new gave next k (t k) →
     ServesWithQueue (piece_on w old.store answer) (queue_on w old.store answer) old new gave next
     (t (call_of w))
@@ -167,10 +168,10 @@ pub ends_by_name : {B : Type 0} {P : _} (w : Work) (answer : Option (List ℕ)) 
     blocks w.caller answer io ≡ r blocks) →
     EndsWithQueue r (queue_after (policies_of old 2) answer k w.piece w.caller (queue_of old)) old
     new next →
-    ServesWithQueue (piece_on w old answer) (queue_on w old answer) (moment old d log)
-    (moment new d log) None next (bare_stage_of w)
+    ServesWithQueue (piece_on w old answer) (queue_on w old answer) (store_moment old d log)
+    (store_moment new d log) None next (bare_stage_of w)
 ends_by_name w answer old new d log next k r named none is ended =
-    by_name w answer (moment old d log) (moment new d log) None next k (λ _. bare_stage_of w) named
+    by_name w answer (store_moment old d log) (store_moment new d log) None next k (λ _. bare_stage_of w) named
     (serves_at_once (λ blocks io. piece_of k w.piece (world_of_store old) (objects_of old) blocks
     w.caller answer io) r old new d log next (bare_stage_of w) none is
     (comes_of_ends r old new next (bare_stage_of w) ended))

@@ -14,7 +14,7 @@ use Rattle.kernel_model.specs.declared.SysCall.TheVariants.{Bill, Serve, StreamR
 use Rattle.kernel_model.specs.World.{World, ImageTable, file_named}
 use Rattle.kernel_model.specs.Meaning.{Meaning, Stage}
 use Rattle.kernel_model.specs.Early.{begins_unless, call_refusal, plain_early, policy_count, refused}
-use Rattle.plain_rules.specs.QuickPieces.{is_disk_fault}
+use Rattle.call_laws.specs.QuickPieces.{is_disk_fault}
 
 -- a call is refused, if it is, because the disk failed
 abbrev pub is_for_disk : Option Refusal → Bool

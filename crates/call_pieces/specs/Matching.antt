@@ -9,7 +9,7 @@ use Rattle.kernel_model.specs.Meaning.{Meaning, Stage, Piece, After, Continues, 
 use Rattle.kernel_model.specs.Policies.{lives}
 use Rattle.kernel_model.specs.Pieces.{piece_fits, pieces_left, read_fits, read_left}
 use Rattle.kernel_model.specs.Sound.{HasWholeBlocks}
-use Rattle.disk_log.specs.Calls.{Knows}
+use Rattle.kernel_state.specs.Calls.{Knows}
 use Rattle.call_needs.specs.declared.Work.{Work}
 use Rattle.call_needs.specs.Works.{IsDue, call_of}
 use Rattle.call_pieces.specs.declared.Next.{Next}

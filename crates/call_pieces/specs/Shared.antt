@@ -13,14 +13,14 @@ use Rattle.kernel_model.specs.Needs.{file_block, ahead_block, piece_ask}
 use Rattle.kernel_model.specs.Pieces.{piece_of}
 use Rattle.kernel_model.specs.FilePieces.{read_piece, read_first_at, read_second, read_third_at}
 use Rattle.kernel_model.specs.FilePieces.{ahead_by, write_piece, sync_from}
-use Rattle.disk_log.specs.Calls.{Knows, CallsExtend}
+use Rattle.kernel_state.specs.Calls.{Knows, CallsExtend}
 use Rattle.kernel_state.specs.declared.Store.{Store}
 use Rattle.kernel_state.specs.Stores.{world_of_store, objects_of, queue_of, policies_of, SegmentsStay}
 use Rattle.call_needs.specs.declared.Access.{Access}
 use Rattle.call_needs.specs.declared.Work.{Work}
 use Rattle.call_needs.specs.Works.{call_of, stage_of, IsPlainDue}
 use Rattle.call_needs.specs.Needing.{block_meant}
-use Rattle.call_needs.specs.Fetching.{Moment, has_failed}
+use Rattle.call_needs.specs.Fetching.{StoreMoment, has_failed}
 use Rattle.call_pieces.specs.declared.Next.{Next}
 use Rattle.call_pieces.specs.Queues.{queue_after}
 use Rattle.call_pieces.specs.Matching.{PieceMatches, PieceMatchesSome, comes_after, is_fault, goes_on}
@@ -80,14 +80,14 @@ abbrev pub CameBySome : (v : World) (piece : Blocks → List Bool → Piece) (s 
 CameBySome v piece s gave result t log = PieceMatchesSome v piece s gave (comes_after result t) log
 
 -- a piece may call the disk: it is the store's, and no call of it was made so far
-pub record DiskReady {B : Type 0} {P : _} (m : Moment (Store B P)) : Type 0 where
+pub record DiskReady {B : Type 0} {P : _} (m : StoreMoment (Store B P)) : Type 0 where
   pub disk : m.store.size ≡ m.disk.size
   pub fresh : m.log ≡ []
 
 -- The next piece of this work may be done, with this answer, or by default: it is due, the answer is
 -- one that its point accepts, and the piece may call the disk.
 pub record PieceReady {B : Type 0} {P : _} (work : Work) (answer : Option (List ℕ))
-    (m : Moment (Store B P)) : Type 0 where
+    (m : StoreMoment (Store B P)) : Type 0 where
   pub due : IsPlainDue (world_of_store m.store) (objects_of m.store) work.caller (stage_of work)
   pub right : IsRightAnswer (objects_of m.store) (piece_ask (call_of work) work.piece
       (world_of_store m.store) (objects_of m.store).things work.caller) answer
@@ -107,7 +107,7 @@ pub record PieceKeeps {B : Type 0} {P : _} (queue : List QueueRow) (old new : St
 -- goes on: over the blocks that the disk told, or else over some whole ones, as the definitions have
 -- it. The queue is this. The log goes on with the calls of the disk that it made.
 pub record ServesWithQueue {B : Type 0} {P : _} (piece : Blocks → List Bool → Piece)
-    (queue : List QueueRow) (old new : Moment (Store B P)) (gave : Option (List ℕ)) (next : Next)
+    (queue : List QueueRow) (old new : StoreMoment (Store B P)) (gave : Option (List ℕ)) (next : Next)
     (t : Stage) : Type 0 where
   pub does : CameBy piece (objects_of new.store) old.disk.known new.disk.known gave next t new.log
   pub some : CameBySome (world_of_store old.store) piece (objects_of new.store) gave next t new.log
@@ -116,13 +116,13 @@ pub record ServesWithQueue {B : Type 0} {P : _} (piece : Blocks → List Bool �
 
 -- so it is, and the queue stays
 abbrev pub Serves : {B : Type 0} {P : _} → (piece : Blocks → List Bool → Piece) →
-    (old new : Moment (Store B P)) → Option (List ℕ) → Next → Stage → Type 0
+    (old new : StoreMoment (Store B P)) → Option (List ℕ) → Next → Stage → Type 0
 Serves piece old new gave next t =
     ServesWithQueue piece (queue_of old.store) old new gave next t
 
 -- so it is of the last piece of a call, which gives nothing
 pub record ServesLast {B : Type 0} {P : _} (piece : Blocks → List Bool → Piece)
-    (old new : Moment (Store B P)) (next : Next) : Type 0 where
+    (old new : StoreMoment (Store B P)) (next : Next) : Type 0 where
   pub does : (t : Stage) →
       CameBy piece (objects_of new.store) old.disk.known new.disk.known None next t new.log
   pub some : (t : Stage) →
@@ -148,7 +148,7 @@ queue_on w s answer =
 -- ---- pieces of reads and writes
 
 -- the process of an access may have a piece of it, with no call of the disk so far
-pub record AccessReady {B : Type 0} {P : _} (m : Moment (Store B P)) (r : Access) : Type 0 where
+pub record AccessReady {B : Type 0} {P : _} (m : StoreMoment (Store B P)) (r : Access) : Type 0 where
   pub alive : lives (queue_of m.store) r.p ≡ true
   pub descriptor : r.fd < 4
   pub inside : r.off + r.len ≤ 512

@@ -9,9 +9,8 @@ ghost use Rattle.call_pieces.specs.Callers.{CanGive};
 ghost use Rattle.call_pieces.specs.Shared.{EndsAtOnce};
 
 use crate::Next;
-use graft_points::Policy;
 use kernel_model::{Kind, Refusal, Reply};
-use kernel_state::Store;
+use kernel_state::{Policy, Store};
 
 /// Process p gives n to process q, if that lives.
 pub(crate) fn give<B: Policy>(store: &mut Store<B>, p: u8, q: u32, k: Kind, n: u32) -> Next

@@ -2,13 +2,10 @@
 
 use crate::{Next, piece};
 use arrayvec::ArrayVec;
+use call_laws::PlainRules;
 use call_needs::{Gift, Needs, TOP_POINT, Work, asks, early_upto, need};
-use disk_log::DiskLog;
-use graft_points::Policy;
 use kernel_model::{BLOCK_BYTES, BareCall, Point, Refusal, Rules};
-use kernel_state::Store;
-use plain_rules::PlainRules;
-use vino_base::Disk;
+use kernel_state::{Disk, DiskLog, Policy, Store};
 
 /// A table of system calls, each of which is refused at once or is in flight until a piece ends it.
 pub trait Calls {
@@ -18,7 +15,7 @@ pub trait Calls {
     ghost use Rattle.kernel_model.specs.Laws.{IsRightAnswer};
     ghost use Rattle.kernel_model.specs.Bare.{call_with};
     ghost use Rattle.kernel_model.specs.Policies.{lives};
-    ghost use Rattle.disk_log.specs.Calls.{Knows, Made};
+    ghost use Rattle.kernel_state.specs.Calls.{Knows, Made};
     ghost use Rattle.kernel_state.specs.Stores.{world_of_store, objects_of, queue_of, SegmentsStay};
     ghost use Rattle.call_needs.specs.Fetching.{has_failed};
     ghost use Rattle.kernel_model.specs.ImageMask.{TellsImages};

@@ -5,6 +5,7 @@
 #![tactic(auto)]
 
 mod amounts;
+mod beside;
 mod calls;
 mod locks;
 mod one_piece;
@@ -15,10 +16,17 @@ mod syncs;
 mod writes;
 
 pub use amounts::{bill, fund};
-pub use call_needs::{Gift, Needs, Work};
+pub use beside::Beside;
+pub use call_laws::{EventRules, StreamRules};
+pub use call_needs::{
+    Access, Gift, MOST_HANDLERS, Needs, TOP_POINT, Work, asks, block_ask, copy_body, copy_bytes_of,
+    early_upto, fetch, laws, need, plan_block, refusal_upto,
+};
 pub use calls::{Calls, Plain};
 use kernel_model::{Refusal, Reply};
+pub use kernel_state::{Directory, Disk, DiskLog, Policy, Setup, Shelf, Store, read_directory};
 pub use pieces::piece;
+pub use ram_space::{Ram, Segments};
 pub use writes::write;
 
 /// What comes after a piece.

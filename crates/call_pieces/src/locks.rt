@@ -7,9 +7,8 @@ ghost use Rattle.call_pieces.specs.Callers.{CanLock};
 ghost use Rattle.call_pieces.specs.Shared.{EndsAtOnce};
 
 use crate::Next;
-use graft_points::Policy;
 use kernel_model::{Refusal, Reply};
-use kernel_state::Store;
+use kernel_state::{Policy, Store};
 
 /// Process p takes user lock u, unless it is held.
 pub(crate) fn take_lock<B: Policy>(store: &mut Store<B>, p: u8, u: u32) -> Next

@@ -12,7 +12,7 @@ ghost use Rattle.kernel_model.specs.Fetch.{chosen_by};
 ghost use Rattle.kernel_model.specs.FilePieces.{leaves, open_piece, close_piece, free_descriptor, new_file};
 ghost use Rattle.kernel_model.specs.Pieces.{spawn_piece, exit_piece, yield_piece, poke_piece};
 ghost use Rattle.kernel_model.specs.Sound.{IsSoundFile};
-ghost use Rattle.disk_log.specs.Calls.{Knows};
+ghost use Rattle.kernel_state.specs.Calls.{Knows};
 ghost use Rattle.kernel_state.specs.Stores.{world_of_store, objects_of, queue_of, queue_joined};
 ghost use Rattle.kernel_state.specs.Stores.{policies_of, SegmentsStay};
 ghost use Rattle.kernel_state.specs.Places.{HasCell, HasDescriptor};
@@ -23,9 +23,8 @@ ghost use Rattle.call_pieces.specs.Matching.{PieceMatches, comes_after, is_fault
 
 use crate::Next;
 use call_needs::laws::living_are_numbered;
-use graft_points::Policy;
 use kernel_model::{OpenRow, Refusal, Reply};
-use kernel_state::Store;
+use kernel_state::{Policy, Store};
 
 /// A new process joins at the back of the queue.
 pub(crate) fn spawn<B: Policy>(store: &mut Store<B>) -> Next

@@ -3,9 +3,9 @@
 ghost use Rattle.std.specs.Prelude.{◌≡◌, true, false, None};
 ghost use Rattle.kernel_model.specs.Needs.{piece_ask};
 ghost use Rattle.kernel_model.specs.Laws.{IsRightAnswer};
-ghost use Rattle.disk_log.specs.Calls.{Made};
+ghost use Rattle.kernel_state.specs.Calls.{Made};
 ghost use Rattle.kernel_state.specs.Stores.{world_of_store, objects_of};
-ghost use Rattle.call_needs.specs.Fetching.{moment};
+ghost use Rattle.call_needs.specs.Fetching.{store_moment};
 ghost use Rattle.call_needs.specs.Works.{bare_stage_of, call_of, stage_of, IsPlainDue};
 ghost use Rattle.call_pieces.specs.Shared.{DiskReady, PieceReady, ServesWithQueue, piece_on, queue_on};
 ghost use Rattle.call_pieces.specs.Matching.{HasContinued, goes_on, is_frequent, is_read};
@@ -19,11 +19,8 @@ use crate::reads::read;
 use crate::syncs::sync;
 use crate::writes::write;
 use call_needs::{Access, Gift, Work};
-use disk_log::DiskLog;
-use graft_points::Policy;
 use kernel_model::{BareCall, Refusal};
-use kernel_state::Store;
-use vino_base::Disk;
+use kernel_state::{Disk, DiskLog, Policy, Store};
 
 /// The next piece of a call, with an answer to the point that it asks, or by default.
 ///
@@ -44,10 +41,10 @@ pub fn piece<B: Policy, D: Disk>(
     requires right { IsRightAnswer (objects_of store.old)
         (piece_ask (call_of work.old) work.old.piece (world_of_store store.old)
         (objects_of store.old).things work.old.caller) answer }
-    requires disk { DiskReady (moment store.old (D.seen disk.old) log.old) }
+    requires disk { DiskReady (store_moment store.old (D.seen disk.old) log.old) }
     ensures done { ServesWithQueue (piece_on work.old store.old answer)
-        (queue_on work.old store.old answer) (moment store.old (D.seen disk.old) log.old)
-        (moment store.new (D.seen disk.new) log.new) gave.new result (stage_of work.new) }
+        (queue_on work.old store.old answer) (store_moment store.old (D.seen disk.old) log.old)
+        (store_moment store.new (D.seen disk.new) log.new) gave.new result (stage_of work.new) }
     ensures gone { goes_on result ≡ true →
         HasContinued work.old work.new (objects_of store.old) (objects_of store.new) }
     ensures calls { Made (D.seen disk.old) (D.seen disk.new) log.new }
@@ -67,10 +64,10 @@ fn bare_piece<B: Policy, D: Disk>(
     log: &mut DiskLog,
     gave: &mut Gift,
 ) -> Next
-    requires can { PieceReady work.old answer (moment store.old (D.seen disk.old) log.old) }
+    requires can { PieceReady work.old answer (store_moment store.old (D.seen disk.old) log.old) }
     ensures done { ServesWithQueue (piece_on work.old store.old answer)
-        (queue_on work.old store.old answer) (moment store.old (D.seen disk.old) log.old)
-        (moment store.new (D.seen disk.new) log.new) gave.new result (bare_stage_of work.new) }
+        (queue_on work.old store.old answer) (store_moment store.old (D.seen disk.old) log.old)
+        (store_moment store.new (D.seen disk.new) log.new) gave.new result (bare_stage_of work.new) }
     ensures gone { goes_on result ≡ true →
         HasContinued work.old work.new (objects_of store.old) (objects_of store.new) }
     ensures carries { work.new ≡ record (work.old) { piece = work.new.piece } }
@@ -83,7 +80,7 @@ fn bare_piece<B: Policy, D: Disk>(
         BareCall::FreeLock(u) => free_lock(store, p, u),
         BareCall::Poke(k, v) => poke(store, p, k, v),
         BareCall::Peek(k) => peek(store, p, k),
-        BareCall::Read(..) => {
+        BareCall::Read { .. } => {
             let next = read_file(work, store, answer, disk, log, gave);
             next
         }
@@ -104,17 +101,23 @@ fn read_file<B: Policy, D: Disk>(
     log: &mut DiskLog,
     gave: &mut Gift,
 ) -> Next
-    requires can { PieceReady work.old answer (moment store.old (D.seen disk.old) log.old) }
+    requires can { PieceReady work.old answer (store_moment store.old (D.seen disk.old) log.old) }
     requires nothing { gave.old ≡ None }
     requires kind { is_read work.old.call ≡ true }
     ensures done { ServesWithQueue (piece_on work.old store.old answer)
-        (queue_on work.old store.old answer) (moment store.old (D.seen disk.old) log.old)
-        (moment store.new (D.seen disk.new) log.new) gave.new result (bare_stage_of work.new) }
+        (queue_on work.old store.old answer) (store_moment store.old (D.seen disk.old) log.old)
+        (store_moment store.new (D.seen disk.new) log.new) gave.new result (bare_stage_of work.new) }
     ensures gone { goes_on result ≡ true →
         HasContinued work.old work.new (objects_of store.old) (objects_of store.new) }
     ensures carries { work.new ≡ record (work.old) { piece = work.new.piece } }
 {
-    let BareCall::Read(fd, i, off, len) = work.call else {
+    let BareCall::Read {
+        descriptor: fd,
+        block: i,
+        offset: off,
+        length: len,
+    } = work.call
+    else {
         return Next::Fails(Refusal::BadPoint);
     };
     let access = Access {
@@ -138,19 +141,23 @@ fn rarer_piece<B: Policy, D: Disk>(
     log: &mut DiskLog,
     gave: &mut Gift,
 ) -> Next
-    requires can { PieceReady work.old answer (moment store.old (D.seen disk.old) log.old) }
+    requires can { PieceReady work.old answer (store_moment store.old (D.seen disk.old) log.old) }
     requires nothing { gave.old ≡ None }
     requires rarer { is_frequent work.old.call ≡ false }
     ensures done { ServesWithQueue (piece_on work.old store.old answer)
-        (queue_on work.old store.old answer) (moment store.old (D.seen disk.old) log.old)
-        (moment store.new (D.seen disk.new) log.new) gave.new result (bare_stage_of work.new) }
+        (queue_on work.old store.old answer) (store_moment store.old (D.seen disk.old) log.old)
+        (store_moment store.new (D.seen disk.new) log.new) gave.new result (bare_stage_of work.new) }
     ensures gone { goes_on result ≡ true →
         HasContinued work.old work.new (objects_of store.old) (objects_of store.new) }
     ensures carries { work.new ≡ record (work.old) { piece = work.new.piece } }
 {
     let p = work.caller;
     match work.call {
-        BareCall::Write(fd, i, off) => {
+        BareCall::Write {
+            descriptor: fd,
+            block: i,
+            offset: off,
+        } => {
             let bytes = work.bytes.as_slice();
             let len = bytes.len() as u32;
             let access = Access {
@@ -163,24 +170,40 @@ fn rarer_piece<B: Policy, D: Disk>(
             };
             write(store, disk, log, access, bytes)
         }
-        BareCall::Give(q, kind, n) => give(store, p, q, kind, n),
+        BareCall::Give {
+            receiver: q,
+            kind,
+            amount: n,
+        } => give(store, p, q, kind, n),
         BareCall::Spawn => spawn(store),
         BareCall::Exit => exit(store, p),
         BareCall::OpenName => open(store, p, work.bytes.as_slice()),
         BareCall::CloseFd(fd) => close(store, p, fd),
         BareCall::Sync => sync(store, disk, log),
-        BareCall::Tune(kind, k, v) => tune(store, kind, k, v),
+        BareCall::Tune {
+            kind,
+            parameter: k,
+            value: v,
+        } => tune(store, kind, k, v),
         BareCall::Choose(kind, j) => choose(store, kind, j),
-        BareCall::Install(pt, image, limit) => install(store, p, pt, image, limit),
+        BareCall::Install {
+            point: pt,
+            slot: image,
+            limit,
+        } => install(store, p, pt, image, limit),
         BareCall::Remove(pt) => remove(store, p, pt),
-        BareCall::Fund(pt, kind, n) => fund(store, p, pt, kind, n),
+        BareCall::Fund {
+            point: pt,
+            kind,
+            amount: n,
+        } => fund(store, p, pt, kind, n),
         BareCall::Bill(pt) => bill(store, p, pt),
-        BareCall::Serve(_) | BareCall::StreamRead(_, _, _, _) | BareCall::StreamWrite(_, _, _) => {
+        BareCall::Serve(_) | BareCall::StreamRead { .. } | BareCall::StreamWrite { .. } => {
             Next::Fails(Refusal::BadPoint)
         }
         // None of the others comes here.
         BareCall::Yield
-        | BareCall::Read(_, _, _, _)
+        | BareCall::Read { .. }
         | BareCall::TakeLock(_)
         | BareCall::FreeLock(_)
         | BareCall::Poke(_, _)

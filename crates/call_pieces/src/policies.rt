@@ -7,9 +7,8 @@ ghost use Rattle.kernel_state.specs.Stores.{objects_of, queue_of};
 ghost use Rattle.call_pieces.specs.Shared.{EndsAtOnce};
 
 use crate::Next;
-use graft_points::Policy;
 use kernel_model::{Refusal, Reply};
-use kernel_state::Store;
+use kernel_state::{Policy, Store};
 
 /// Parameter k of the chosen policy of a kind gets a value, if it takes it.
 pub(crate) fn tune<B: Policy>(store: &mut Store<B>, kind: u32, k: u32, v: u32) -> Next

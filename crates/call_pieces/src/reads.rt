@@ -11,18 +11,15 @@ ghost use Rattle.kernel_model.specs.Needs.{read_ask};
 ghost use Rattle.kernel_model.specs.Sound.{IsSoundFile};
 ghost use Rattle.kernel_state.specs.Places.{HasDescriptor};
 ghost use Rattle.kernel_state.specs.Stores.{world_of_store, objects_of, queue_of, policies_of};
-ghost use Rattle.call_needs.specs.Fetching.{NamesFrame, moment};
+ghost use Rattle.call_needs.specs.Fetching.{NamesFrame, store_moment};
 ghost use Rattle.call_pieces.specs.Shared.{AccessReady, ComesAtOnce, Serves, read_stage, read_of};
 ghost use Rattle.call_pieces.specs.Shared.{first_of, second_of, later_of};
 ghost use Rattle.call_pieces.specs.Matching.{ReadContinues, goes_on};
 
 use crate::Next;
 use call_needs::{Access, Gift, fetch, fetch_ahead, plan_ahead, plan_block};
-use disk_log::DiskLog;
-use graft_points::Policy;
 use kernel_model::{OpenRow, Refusal, Reply};
-use kernel_state::{Ahead, Store};
-use vino_base::Disk;
+use kernel_state::{Ahead, Disk, DiskLog, Policy, Store};
 
 /// The next piece of a read.
 #[inline(always)]
@@ -34,7 +31,7 @@ pub(crate) fn read<B: Policy, D: Disk>(
     gave: &mut Gift,
     r: Access,
 ) -> Next
-    requires ready { AccessReady (moment store.old (D.seen disk.old) log.old) r }
+    requires ready { AccessReady (store_moment store.old (D.seen disk.old) log.old) r }
     requires fits { piece_fits (Read r.fd r.i r.off r.len) piece.old (objects_of store.old).things
         r.p ≡ true }
     requires right { IsRightAnswer (objects_of store.old) (read_ask piece.old
@@ -42,7 +39,7 @@ pub(crate) fn read<B: Policy, D: Disk>(
         r.answer }
     requires nothing { gave.old ≡ None }
     ensures done { Serves (read_of store.old piece.old r)
-        (moment store.old (D.seen disk.old) log.old) (moment store.new (D.seen disk.new) log.new)
+        (store_moment store.old (D.seen disk.old) log.old) (store_moment store.new (D.seen disk.new) log.new)
         gave.new result (read_stage r piece.new) }
     ensures next { goes_on result ≡ true → ReadContinues piece.old piece.new
         ((objects_of store.old).things.file r.p r.fd)
@@ -73,12 +70,12 @@ fn first<B: Policy, D: Disk>(
     r: Access,
     opened: OpenRow,
 ) -> Next
-    requires ready { AccessReady (moment store.old (D.seen disk.old) log.old) r }
+    requires ready { AccessReady (store_moment store.old (D.seen disk.old) log.old) r }
     requires right { NamesFrame store.old r.answer }
     requires file { (objects_of store.old).things.file r.p r.fd ≡ Some opened }
     requires nothing { gave.old ≡ None }
     ensures done { Serves (first_of store.old r opened)
-        (moment store.old (D.seen disk.old) log.old) (moment store.new (D.seen disk.new) log.new)
+        (store_moment store.old (D.seen disk.old) log.old) (store_moment store.new (D.seen disk.new) log.new)
         gave.new result (read_stage r 1) }
     ensures next { goes_on result ≡ true →
         ReadContinues 0 1 (Some opened) ((objects_of store.new).things.file r.p r.fd) }
@@ -144,13 +141,13 @@ fn later<B: Policy, D: Disk>(
     r: Access,
     opened: OpenRow,
 ) -> Next
-    requires ready { AccessReady (moment store.old (D.seen disk.old) log.old) r }
+    requires ready { AccessReady (store_moment store.old (D.seen disk.old) log.old) r }
     requires right { NamesFrame store.old r.answer }
     requires file { (objects_of store.old).things.file r.p r.fd ≡ Some opened }
     requires opened { IsSoundFile (world_of_store store.old) opened }
     requires some { 1 ≤ opened.count }
     ensures done { Serves (later_of store.old r opened)
-        (moment store.old (D.seen disk.old) log.old) (moment store.new (D.seen disk.new) log.new)
+        (store_moment store.old (D.seen disk.old) log.old) (store_moment store.new (D.seen disk.new) log.new)
         None result (read_stage r 2) }
     ensures next { goes_on result ≡ true →
         ReadContinues 2 2 (Some opened) ((objects_of store.new).things.file r.p r.fd) }

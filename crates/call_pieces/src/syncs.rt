@@ -7,19 +7,16 @@ ghost use Rattle.kernel_model.specs.FilePieces.{with_cache};
 ghost use Rattle.std.specs.Result.{is_err};
 ghost use Rattle.kernel_model.specs.Objects.{FrameValue, at};
 ghost use Rattle.kernel_model.specs.Fetch.{bytes_of, cleaned};
-ghost use Rattle.buffer_cache.specs.Frames.{in_use};
-ghost use Rattle.disk_log.specs.Calls.{Knows, CallsExtend};
+ghost use Rattle.kernel_state.specs.Frames.{in_use};
+ghost use Rattle.kernel_state.specs.Calls.{Knows, CallsExtend};
 ghost use Rattle.kernel_state.specs.Stores.{world_of_store, objects_of, cache_of, queue_of};
-ghost use Rattle.call_needs.specs.Fetching.{moment};
+ghost use Rattle.call_needs.specs.Fetching.{store_moment};
 ghost use Rattle.call_pieces.specs.Shared.{DiskReady, ServesLast, sync_of};
 
 use crate::Next;
 use call_needs::frame_bytes;
-use disk_log::DiskLog;
-use graft_points::Policy;
 use kernel_model::{Refusal, Reply};
-use kernel_state::Store;
-use vino_base::{Disk, Failed};
+use kernel_state::{Disk, DiskLog, Failed, Policy, Store};
 
 /// Writes the dirty frames in the order of their numbers; each is clean then. Where a call of the
 /// disk fails, what was written before stays written. No byte of memory changes.
@@ -28,9 +25,9 @@ pub(crate) fn sync<B: Policy, D: Disk>(
     disk: &mut D,
     log: &mut DiskLog,
 ) -> Next
-    requires { DiskReady (moment store.old (D.seen disk.old) log.old) }
-    ensures done { ServesLast (sync_of store.old) (moment store.old (D.seen disk.old) log.old)
-        (moment store.new (D.seen disk.new) log.new) result }
+    requires { DiskReady (store_moment store.old (D.seen disk.old) log.old) }
+    ensures done { ServesLast (sync_of store.old) (store_moment store.old (D.seen disk.old) log.old)
+        (store_moment store.new (D.seen disk.new) log.new) result }
     ensures ram { store.new.ram ≡ store.old.ram }
 {
     let mut written = 0;

@@ -1,8 +1,8 @@
 -- The lines of the generated script that are still to come.
 use Rattle.std.specs.Prelude.{◌≡◌, ℕ, ◌≤◌, List, [], ◌++◌, drop, length}
-use Rattle.kernel_model.specs.World.{plain_image}
-use Rattle.kernel_model.specs.Images.{sealed_under}
-use Rattle.kernel_model.specs.Demo.{demo_keys, three, newest_frame, head_lines, drawn_lines}
+use Rattle.script_model.specs.World.{plain_image}
+use Rattle.script_model.specs.Images.{sealed_under}
+use Rattle.script_model.specs.Demo.{demo_keys, three, newest_frame, head_lines, drawn_lines}
 
 -- the bytes of both images, sealed under the key of zeros
 pub record AreDemoImages (first second : List ℕ) : Type 0 where

@@ -1,7 +1,8 @@
 -- The line that tells of a run.
 use Rattle.std.specs.Prelude.{ℕ, List, ◌++◌, codes}
-use Rattle.kernel_model.specs.Bytes.{hex_text}
-use Rattle.kernel_model.specs.Text.{spaced, line}
+use Rattle.script_model.specs.Bytes.{hex_text}
+use Rattle.script_model.specs.Bytes.{spaced}
+use Rattle.script_model.specs.Text.{line}
 use Rattle.demo_text.specs.declared.summary.Counts.{Counts}
 
 -- the line of the script of a number, of what was counted, and of the digest of all that was

@@ -1,8 +1,8 @@
 -- What a tally tells of the bytes and notes so far.
 use Rattle.std.specs.Prelude.{◌≡◌, ℕ, ◌+◌, ◌<◌, ◌^◌, ◌==◌, Bool, List, length, filter}
 use Rattle.sha2.specs.Hashers.{Holds256}
-use Rattle.kernel_model.specs.declared.Note.{Note}
-use Rattle.kernel_model.specs.Demo.{is_ended, is_refused, is_dropped}
+use Rattle.script_model.specs.declared.Note.{Note}
+use Rattle.script_model.specs.Demo.{is_ended, is_refused, is_dropped}
 use Rattle.demo_text.specs.declared.tally.Tally.{Tally}
 
 -- a byte that ends a line

@@ -1,8 +1,8 @@
 //! The drawn lines: from a draw to the next, and from a draw to its line.
 
 ghost use Rattle.std.specs.Prelude.{◌≡◌, ◌<◌, ◌^◌, ◌++◌, codes};
-ghost use Rattle.kernel_model.specs.Demo as demo;
-ghost use Rattle.kernel_model.specs.Text.{spaced};
+ghost use Rattle.script_model.specs.Demo as demo;
+ghost use Rattle.script_model.specs.Bytes.{spaced};
 
 use line_text::Text;
 

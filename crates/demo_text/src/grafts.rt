@@ -1,10 +1,10 @@
 //! Both grafts of the generated script.
 
 ghost use Rattle.std.specs.Prelude.{◌≡◌, List, [], ◌∷◌};
-ghost use Rattle.kernel_model.specs.Boxed as boxed;
-ghost use Rattle.kernel_model.specs.Demo as demo;
+ghost use Rattle.script_model.specs.Boxed as boxed;
+ghost use Rattle.script_model.specs.Demo as demo;
 
-use kernel_model::{Instr, Op};
+use script_model::{Instr, Op};
 
 /// An instruction.
 fn instr(op: Op, a: u8, b: u8, c: u8, imm: u32) -> Instr

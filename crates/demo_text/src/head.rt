@@ -2,9 +2,9 @@
 //! grafts.
 
 ghost use Rattle.std.specs.Prelude.{◌≡◌, ◌<◌, ◌≤◌, ◌+◌, ◌++◌, ◌∷◌, codes, drop, length};
-ghost use Rattle.kernel_model.specs.Bytes.{hex_text};
-ghost use Rattle.kernel_model.specs.Demo.{head_lines};
-ghost use Rattle.kernel_model.specs.Text.{spaced};
+ghost use Rattle.script_model.specs.Bytes.{hex_text};
+ghost use Rattle.script_model.specs.Demo.{head_lines};
+ghost use Rattle.script_model.specs.Bytes.{spaced};
 ghost use Rattle.demo_text.specs.Lines.{AreDemoImages};
 
 use line_text::Text;

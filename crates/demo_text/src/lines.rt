@@ -2,18 +2,19 @@
 
 ghost use Rattle.std.specs.Prelude.{◌≡◌, ℕ, ◌∷◌, ◌++◌, [], List, length, ◌≤◌, ◌<◌, ◌^◌, true};
 ghost use Rattle.std.specs.Prelude.{false, IsTrue, IfOk, OnOk, flat_map};
-ghost use Rattle.kernel_model.specs.Demo.{demo_keys, demo_lines};
-ghost use Rattle.kernel_model.specs.Images.{sealed_under};
-ghost use Rattle.kernel_model.specs.Text as text;
+ghost use Rattle.script_model.specs.Demo.{demo_keys, demo_lines};
+ghost use Rattle.script_model.specs.Images.{sealed_under};
+ghost use Rattle.script_model.specs.Text as text;
 
 use crate::drawn::{next_draw, print_draw};
 use crate::grafts::{newest_frame, three};
 use crate::head::{HEAD_LINES, print_head};
 use graft_loader::{Keys, seal_under};
-use kernel_model::NoMemory;
 use line_text::Text;
+use script_model::NoMemory;
 use std::alloc::Global;
 use std::marker::Model;
+use text_words::append;
 
 /// How many lines are drawn.
 const DRAWN_LINES: u16 = 5000;
@@ -105,13 +106,4 @@ pub fn demo_script(alloc: Global, n: u32) -> Result<Vec<u8>, NoMemory>
         append(&mut bytes, b"\n".as_slice())?;
     }
     Ok(bytes)
-}
-
-fn append(bytes: &mut Vec<u8>, more: &[u8]) -> Result<(), NoMemory>
-    ensures { OnOk result (bytes.new.items ≡ bytes.old.items ++ more.now) }
-{
-    match bytes.extend_from_slice(more) {
-        Ok(()) => Ok(()),
-        Err(_) => Err(NoMemory),
-    }
 }

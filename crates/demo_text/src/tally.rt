@@ -1,14 +1,14 @@
 //! What a run wrote so far, counted and hashed.
 
 ghost use Rattle.std.specs.Prelude.{◌≡◌, ◌≤◌, ◌<◌, ◌+◌, ◌^◌, ◌++◌, ◌==◌, ℕ, List, [], length, filter};
-ghost use Rattle.kernel_model.specs.declared.Note.{Note as Told};
-ghost use Rattle.kernel_model.specs.Bare.{note_with, notes_with};
-ghost use Rattle.kernel_model.specs.Demo as demo;
+ghost use Rattle.script_model.specs.declared.Note.{Note};
+ghost use Rattle.script_model.specs.Bare.{note_with, notes_with};
+ghost use Rattle.script_model.specs.Demo as demo;
 ghost use Rattle.demo_text.specs.Tallies.{IsTally, is_newline, TakesMore};
 
 use crate::summary::{Counts, print_summary};
-use kernel_model::BareNote;
 use line_text::Text;
+use script_model::BareNote;
 use sha2::{Digest, Sha256};
 
 /// The lines, calls and drops of a run so far, and the digest of what it wrote.
@@ -51,7 +51,7 @@ fn count_drops(notes: &[BareNote]) -> u64
 {
     notes
         .iter()
-        .filter(|note| matches!(note, BareNote::Dropped(_, _, _, _)))
+        .filter(|note| matches!(note, BareNote::Dropped { .. }))
         .count() as u64
 }
 
@@ -74,7 +74,7 @@ impl Tally {
     /// More bytes, and the notes of which they tell, whatever bytes these gave.
     pub fn add(&mut self, bytes: &[u8], notes: &[BareNote])
         requires { TakesMore self.old bytes.now (length notes.now) }
-        ensures { (given written : List ℕ) (told : List Told) → IsTally self.old written told →
+        ensures { (given written : List ℕ) (told : List Note) → IsTally self.old written told →
             IsTally self.new (written ++ bytes.now) (told ++ notes_with notes.now given) }
     {
         self.counts.lines += count_lines(bytes);
@@ -86,7 +86,7 @@ impl Tally {
 
     /// The line that tells of the run of the script of this number.
     pub fn print(self, n: u32, out: &mut Text)
-        ensures { (written : List ℕ) (told : List Told) → IsTally self written told →
+        ensures { (written : List ℕ) (told : List Note) → IsTally self written told →
             out.new ≡ demo.summary_of n written told }
     {
         let digest = self.hash.finalize();

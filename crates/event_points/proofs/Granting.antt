@@ -14,9 +14,9 @@ use Rattle.kernel_model.specs.Policies.{lives}
 use Rattle.kernel_model.specs.Meaning.{stage}
 use Rattle.kernel_model.specs.Early.{call_refusal, begins_unless}
 use Rattle.kernel_model.specs.EventPoints.{is_event_call, event_refusal, event_left, event_points}
-use Rattle.event_rules.specs.EventLaws.{laws_of_event_points}
-use Rattle.call_needs.specs.Masks.{table_of_mask, mask_tells}
-use Rattle.call_needs.specs.Works.{IsDue}
+use Rattle.call_pieces.specs.EventLaws.{laws_of_event_points}
+use Rattle.call_pieces.specs.Masks.{table_of_mask, mask_tells}
+use Rattle.call_pieces.specs.Works.{IsDue}
 
 -- ---- refusals
 

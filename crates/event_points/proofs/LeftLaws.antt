@@ -8,9 +8,9 @@ use Rattle.kernel_model.specs.Objects.{Objects}
 use Rattle.kernel_model.specs.Meaning.{Answer, Piece, After}
 use Rattle.kernel_model.specs.EventPoints.{event_piece}
 use Rattle.kernel_model.specs.Sound.{HasWholeBlocks}
-use Rattle.disk_log.specs.Calls.{Knows, blocks_in}
-use Rattle.call_needs.specs.declared.Work.{Work}
-use Rattle.call_needs.specs.Works.{call_of, stage_of}
+use Rattle.call_pieces.specs.Calls.{Knows, blocks_in}
+use Rattle.call_pieces.specs.declared.Work.{Work}
+use Rattle.call_pieces.specs.Works.{call_of, stage_of}
 use Rattle.call_pieces.specs.Matching.{PieceMatches, PieceMatchesSome}
 
 -- a piece of a call, by which call it is

@@ -2,9 +2,9 @@
 use Rattle.std.specs.Prelude.{◌≡◌, ℕ, ◌+◌, ◌<◌, ◌≤◌, ◌==◌, true, cond, List, [], ◌∷◌, drop, length}
 use Rattle.kernel_model.specs.declared.Reply.TheVariants.{One}
 use Rattle.kernel_model.specs.EventPoints.{serve_fits}
-use Rattle.call_needs.specs.declared.Work.{Work}
+use Rattle.call_pieces.specs.declared.Work.{Work}
 use Rattle.call_pieces.specs.declared.Next.{Next}
-use Rattle.call_needs.specs.Works.{call_of}
+use Rattle.call_pieces.specs.Works.{call_of}
 
 -- a call after its first piece, which took these handlers into it
 abbrev pub with_taken : List (ℕ × ℕ) → Work → Work

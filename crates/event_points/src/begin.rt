@@ -6,14 +6,12 @@ ghost use Rattle.kernel_model.specs.ImageMask.{TellsImages};
 ghost use Rattle.kernel_model.specs.Bare.{call_with};
 ghost use Rattle.kernel_model.specs.EventPoints as spec;
 ghost use Rattle.kernel_model.specs.Policies.{lives};
-ghost use Rattle.kernel_state.specs.Stores.{world_of_store, objects_of, queue_of};
-ghost use Rattle.call_needs.specs.Works.{IsDue, begun, stage_of, stage_granted};
+ghost use Rattle.call_pieces.specs.Stores.{world_of_store, objects_of, queue_of};
+ghost use Rattle.call_pieces.specs.Works.{IsDue, begun, stage_of, stage_granted};
 
 use arrayvec::ArrayVec;
-use call_needs::{Work, refusal_upto};
-use graft_points::Policy;
+use call_pieces::{Policy, Store, Work, refusal_upto};
 use kernel_model::{BLOCK_BYTES, BareCall, Refusal};
-use kernel_state::Store;
 
 /// How many ports there are.
 const PORTS: u32 = 8;
@@ -37,9 +35,9 @@ pub(crate) fn is_event_call(call: BareCall) -> bool
 {
     match call {
         BareCall::Serve(_) => true,
-        BareCall::Install(pt, _, _)
+        BareCall::Install { point: pt, .. }
         | BareCall::Remove(pt)
-        | BareCall::Fund(pt, _, _)
+        | BareCall::Fund { point: pt, .. }
         | BareCall::Bill(pt) => is_event_point(pt),
         _ => false,
     }
@@ -47,7 +45,7 @@ pub(crate) fn is_event_call(call: BareCall) -> bool
 
 /// A call of process p, which lives, before its first piece; or its refusal of least number that
 /// needs no object, and the work stays as it was. Bit k of `images` tells whether image k is loaded.
-pub(crate) fn begin<B: Policy>(
+pub(crate) fn admit<B: Policy>(
     store: &Store<B>,
     images: u32,
     p: u8,
@@ -67,7 +65,7 @@ pub(crate) fn begin<B: Policy>(
     if let Some(refusal) = refusal(store, images, p, call, bytes.as_slice()) {
         return Err(refusal);
     }
-    work.begin(p, call, bytes);
+    work.set_call(p, call, bytes);
     Ok(())
 }
 

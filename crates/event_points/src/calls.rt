@@ -2,18 +2,12 @@
 
 ghost use Rattle.kernel_model.specs.EventPoints.{is_event_call};
 
-use crate::begin::{begin, is_event_call};
+use crate::begin::{admit, is_event_call};
 use crate::needs::{asks, feed, need};
 use crate::pieces::piece;
 use arrayvec::ArrayVec;
-use call_needs::{Gift, Needs, Work};
-use call_pieces::{Calls, Next};
-use disk_log::DiskLog;
-use event_rules::EventRules;
-use graft_points::Policy;
+use call_pieces::{Calls, Disk, DiskLog, EventRules, Gift, Needs, Next, Policy, Store, Work};
 use kernel_model::{BLOCK_BYTES, BareCall, Point, Refusal};
-use kernel_state::Store;
-use vino_base::Disk;
 
 /// The table of event points: `serve`, and `install`, `remove`, `fund` and `bill` at points 6 to
 /// 13.
@@ -41,7 +35,7 @@ impl Calls for EventPoints {
         bytes: &ArrayVec<u8, BLOCK_BYTES>,
         work: &mut Work,
     ) -> Result<(), Refusal> {
-        begin(store, images, p, call, bytes, work)
+        admit(store, images, p, call, bytes, work)
     }
 
     fn need<B: Policy>(work: &Work, store: &Store<B>, needs: &mut Needs) {

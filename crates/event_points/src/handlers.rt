@@ -4,14 +4,12 @@ ghost use Rattle.std.specs.Prelude.{◌≡◌, ◌<◌, ◌≤◌, true};
 ghost use Rattle.kernel_model.specs.Policies.{lives};
 ghost use Rattle.kernel_model.specs.Pieces.{new_graft};
 ghost use Rattle.kernel_model.specs.EventPoints.{handler_joins, handler_leaves};
-ghost use Rattle.kernel_state.specs.Stores.{objects_of, queue_of};
+ghost use Rattle.call_pieces.specs.Stores.{objects_of, queue_of};
 ghost use Rattle.call_pieces.specs.Shared.{EndsAtOnce};
 
-use call_needs::laws::living_are_numbered;
-use call_pieces::Next;
-use graft_points::Policy;
+use call_pieces::laws::living_are_numbered;
+use call_pieces::{Next, Policy, Store};
 use kernel_model::{Refusal, Reply};
-use kernel_state::Store;
 
 /// A graft is put at event point pt of process p, if none stands there, and becomes the last
 /// handler of its port, if that has room.

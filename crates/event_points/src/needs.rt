@@ -5,13 +5,11 @@ ghost use Rattle.std.specs.List.{list_all};
 ghost use Rattle.kernel_model.specs.declared.Object.TheVariants.{Graft};
 ghost use Rattle.kernel_model.specs.Needs.{exclusive, point_needs};
 ghost use Rattle.kernel_model.specs.EventPoints as spec;
-ghost use Rattle.kernel_state.specs.Stores.{world_of_store, objects_of};
-ghost use Rattle.call_needs.specs.Works.{IsDue, call_of, stage_of};
+ghost use Rattle.call_pieces.specs.Stores.{world_of_store, objects_of};
+ghost use Rattle.call_pieces.specs.Works.{IsDue, call_of, stage_of};
 
-use call_needs::{Needs, Work};
-use graft_points::Policy;
+use call_pieces::{Needs, Policy, Store, Work};
 use kernel_model::{BareCall, Object, Point};
-use kernel_state::Store;
 
 /// The objects that the next piece of a call needs, in order. They take the place of what the list
 /// had.
@@ -26,9 +24,9 @@ pub(crate) fn need<B: Policy>(work: &Work, store: &Store<B>, needs: &mut Needs)
     match work.call {
         BareCall::Serve(_) if work.piece == 0 => needs.shared(Object::Queue),
         BareCall::Serve(_) => handler_needs(work.handlers.as_slice(), store, needs),
-        BareCall::Install(pt, _, _) => install_needs(store, p, pt as u8, needs),
+        BareCall::Install { point: pt, .. } => install_needs(store, p, pt as u8, needs),
         BareCall::Remove(pt) => remove_needs(store, p, pt as u8, needs),
-        BareCall::Fund(pt, _, _) => needs.point(store, p, pt as u8),
+        BareCall::Fund { point: pt, .. } => needs.point(store, p, pt as u8),
         BareCall::Bill(pt) => needs.exclusive(Object::Graft(p, pt as u8)),
         _ => {}
     }

@@ -3,19 +3,16 @@
 ghost use Rattle.std.specs.Prelude.{◌≡◌, ℕ, true, false, List, Option};
 ghost use Rattle.kernel_model.specs.World.{Blocks};
 ghost use Rattle.kernel_model.specs.EventPoints.{event_points, event_piece};
-ghost use Rattle.disk_log.specs.Calls.{Knows};
-ghost use Rattle.kernel_state.specs.Stores.{world_of_store, objects_of, SegmentsStay};
-ghost use Rattle.call_needs.specs.Works.{IsDue, call_of, stage_of, answer_seen};
+ghost use Rattle.call_pieces.specs.Calls.{Knows};
+ghost use Rattle.call_pieces.specs.Stores.{world_of_store, objects_of, SegmentsStay};
+ghost use Rattle.call_pieces.specs.Works.{IsDue, call_of, stage_of, answer_seen};
 ghost use Rattle.call_pieces.specs.Matching.{comes_after, PieceMatches, ContinuesFrom, is_fault, goes_on};
 
 use crate::handlers::{install, remove};
 use crate::serving::serve;
-use call_needs::laws::living_are_numbered;
-use call_needs::{Gift, Work};
-use call_pieces::{Next, bill, fund};
-use graft_points::Policy;
+use call_pieces::laws::living_are_numbered;
+use call_pieces::{Gift, Next, Policy, Store, Work, bill, fund};
 use kernel_model::{BareCall, Refusal};
-use kernel_state::Store;
 
 /// The next piece of a call, with an answer or by default. The gift has what it gave then, whatever
 /// it had.
@@ -44,9 +41,17 @@ pub(crate) fn piece<B: Policy>(
     living_are_numbered(store);
     match work.call {
         BareCall::Serve(port) => serve(work, store, port, answer, gave),
-        BareCall::Install(pt, image, limit) => install(store, p, pt, image, limit),
+        BareCall::Install {
+            point: pt,
+            slot: image,
+            limit,
+        } => install(store, p, pt, image, limit),
         BareCall::Remove(pt) => remove(store, p, pt),
-        BareCall::Fund(pt, kind, n) => fund(store, p, pt, kind, n),
+        BareCall::Fund {
+            point: pt,
+            kind,
+            amount: n,
+        } => fund(store, p, pt, kind, n),
         BareCall::Bill(pt) => bill(store, p, pt),
         _ => Next::Fails(Refusal::BadPoint),
     }

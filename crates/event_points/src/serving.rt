@@ -6,19 +6,16 @@ ghost use Rattle.kernel_model.specs.World.{Blocks};
 ghost use Rattle.kernel_model.specs.Handlers.{AreHandlers, handlers_at};
 ghost use Rattle.kernel_model.specs.Meaning.{Answer};
 ghost use Rattle.kernel_model.specs.EventPoints as spec;
-ghost use Rattle.disk_log.specs.Calls.{Knows};
-ghost use Rattle.kernel_state.specs.Stores.{objects_of};
-ghost use Rattle.call_needs.specs.Works.{call_of, stage_of, answer_seen};
+ghost use Rattle.call_pieces.specs.Calls.{Knows};
+ghost use Rattle.call_pieces.specs.Stores.{objects_of};
+ghost use Rattle.call_pieces.specs.Works.{call_of, stage_of, answer_seen};
 ghost use Rattle.call_pieces.specs.Matching.{comes_after, PieceMatches, is_fault, goes_on};
 ghost use Rattle.event_points.specs.Serving.{with_taken, past_handler, next_for, ServeContinues};
 
 use crate::begin::FIRST_POINT;
 use arrayvec::ArrayVec;
-use call_needs::{Gift, MOST_HANDLERS, Work};
-use call_pieces::Next;
-use graft_points::Policy;
+use call_pieces::{Gift, MOST_HANDLERS, Next, Policy, Store, Work};
 use kernel_model::Reply;
-use kernel_state::Store;
 
 /// The next piece of a `serve`: the first takes the handlers of the port into the call, each later
 /// one is that of the next of them.

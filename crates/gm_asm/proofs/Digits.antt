@@ -3,7 +3,7 @@ use Rattle.std.proofs.Common.{◌≡◌, ◌+◌, ◌-◌, ◌*◌, true, refl, 
 use Rattle.std.specs.List.{list_all, fold}
 use Rattle.std.proofs.lemmas.Bool.Decides.{nat_tests}
 use Rattle.std.proofs.lemmas.Str.Parse.{IsDigitsTest, IsNumeralModel, numerals_by_fold}
-use Rattle.kernel_model.specs.Bytes.{is_digit, digits_value}
+use Rattle.graft_texts.specs.Bytes.{is_digit, digits_value}
 
 -- a text of digits, one digit at a time
 is_digits : IsDigitsTest (λ ds. list_all is_digit ds ≡ true)

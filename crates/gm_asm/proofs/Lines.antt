@@ -1,19 +1,27 @@
 -- The text of an image, read back.
-use Rattle.std.proofs.Common.{◌≡◌, ℕ, zero, suc, ◌+◌, ◌*◌, ◌/◌, ◌%◌, ◌<◌, ◌≤◌, true, false, not, ◌&&◌, eqb, ltb, leb, List, [], ◌∷◌, ◌++◌, length, map, get_or, codes, None, Some, Ok, refl, sym, ap, ◌∙◌, append_assoc, arith, length-append}
+use Rattle.std.proofs.Common.{◌≡◌, ℕ, zero, suc, ◌+◌, ◌*◌, ◌/◌, ◌%◌, ◌<◌, ◌≤◌, true, false, not}
+use Rattle.std.proofs.Common.{◌&&◌, eqb, ltb, leb, List, [], ◌∷◌, ◌++◌, length, map, get_or, codes}
+use Rattle.std.proofs.Common.{None, Some, Ok, refl, sym, ap, ◌∙◌, append_assoc, arith}
+use Rattle.std.proofs.Common.{length-append}
 use Rattle.std.specs.Prelude.{flat_map}
 use Rattle.std.specs.List.{list_all}
 use Rattle.std.proofs.lemmas.Bool.Decides.{nat_tests}
 use Rattle.std.proofs.lemmas.List.{append-nil}
 use Rattle.hex.proofs.HexLemmas.{decode_of-encode_lower}
 use Rattle.hex.specs.Hex.{decode_of}
-use Rattle.kernel_model.specs.declared.Instr.{Instr}
-use Rattle.kernel_model.specs.Bytes.{hex_digit as hex_glyph, hex_text, hex_bytes, hex_word}
-use Rattle.kernel_model.specs.World.{Image, plain_image}
-use Rattle.kernel_model.specs.Images.{IsRawImage}
-use Rattle.kernel_model.specs.Instructions.{fits}
-use Rattle.kernel_model.specs.Assembler.{Assembly, Placed, Data, lines_of, words_of, is_empty, statement_of, instr_line, instr_text, body_text, with_line, with_lines, data_after, linked, image_of, empty_assembly, assemble, disassemble}
+use Rattle.graft_texts.specs.declared.Instr.{Instr}
+use Rattle.graft_texts.specs.Bytes.{hex_digit as hex_glyph, hex_text, hex_bytes, hex_word}
+use Rattle.graft_texts.specs.World.{Image, plain_image}
+use Rattle.graft_texts.specs.Images.{IsRawImage}
+use Rattle.graft_texts.specs.Instructions.{fits}
+use Rattle.graft_texts.specs.Assembler.{Assembly, Placed, Data, lines_of, words_of, is_empty}
+use Rattle.graft_texts.specs.Assembler.{statement_of, instr_line, instr_text, body_text, with_line}
+use Rattle.graft_texts.specs.Assembler.{with_lines, data_after, linked, image_of, empty_assembly}
+use Rattle.graft_texts.specs.Assembler.{assemble, disassemble}
 use Rattle.gm_asm.proofs.Hex.{said, hex_bytes-said, encode-hex_text}
-use Rattle.gm_asm.proofs.Texts.{first_true, second_true, both_true, list_all-joined, split_behind, split_whole, is_plain, no_space, no_newline, statement_by, statement_of-line, line-no_newline}
+use Rattle.gm_asm.proofs.Texts.{first_true, second_true, both_true, list_all-joined, split_behind}
+use Rattle.gm_asm.proofs.Texts.{split_whole, is_plain, no_space, no_newline, statement_by}
+use Rattle.gm_asm.proofs.Texts.{statement_of-line, line-no_newline}
 
 -- ---- the lines of the text
 
@@ -23,8 +31,10 @@ lines-code : (code : List Instr) (rest : List ℕ) → list_all fits code ≡ tr
 lines-code [] rest h = refl
 lines-code (i ∷ is) rest h =
     let fit = first_true (fits i) (list_all fits is) h in
-    let joined : (instr_line i ++ 10 ∷ []) ++ flat_map instr_text is ++ rest ≡ instr_line i ++ 10 ∷ (flat_map instr_text is ++ rest) =
-    append_assoc (instr_line i ++ 10 ∷ []) (flat_map instr_text is) rest ∙ append_assoc (instr_line i) (10 ∷ []) (flat_map instr_text is ++ rest) in
+    let joined : (instr_line i ++ 10 ∷ []) ++ flat_map instr_text is ++ rest
+    ≡ instr_line i ++ 10 ∷ (flat_map instr_text is ++ rest) =
+    append_assoc (instr_line i ++ 10 ∷ []) (flat_map instr_text is) rest
+    ∙ append_assoc (instr_line i) (10 ∷ []) (flat_map instr_text is ++ rest) in
     ap lines_of joined
     ∙ split_behind (λ b. eqb b 10) (instr_line i) 10 (flat_map instr_text is ++ rest) (line-no_newline i fit) refl
     ∙ ap (λ (ls : List (List ℕ)). instr_line i ∷ ls) (lines-code is rest (second_true (fits i) (list_all fits is) h))
@@ -64,17 +74,22 @@ with_lines-first : (line : ℕ) (a b : Assembly) (text : List ℕ) (texts : List
 with_lines-first line a b text texts h = rw (h, with_lines) refl
 
 -- the lines of code
-with_lines-code : (code : List Instr) (line : ℕ) (before : List Placed) (rest : List (List ℕ)) → list_all fits code ≡ true
+with_lines-code : (code : List Instr) (line : ℕ) (before : List Placed) (rest : List (List ℕ)) →
+    list_all fits code ≡ true
     → length before + length code ≤ 1024
-    → with_lines line (of_code before) (map instr_line code ++ rest) ≡ with_lines (line_behind line code) (of_code (before ++ placed_from line code)) rest
-with_lines-code [] line before rest h g = ap (λ (ps : List Placed). with_lines line (of_code ps) rest) (sym (append-nil before))
+    → with_lines line (of_code before) (map instr_line code ++ rest)
+    ≡ with_lines (line_behind line code) (of_code (before ++ placed_from line code)) rest
+with_lines-code [] line before rest h g =
+    ap (λ (ps : List Placed). with_lines line (of_code ps) rest) (sym (append-nil before))
 with_lines-code (i ∷ is) line before rest h g =
     let fit = first_true (fits i) (list_all fits is) h in
     let first = with_line-instr line before i fit (omega (arith, g)) in
-    with_lines-first line (of_code before) (of_code (before ++ placed_at line i ∷ [])) (instr_line i) (map instr_line is ++ rest) first
+    with_lines-first line (of_code before)
+    (of_code (before ++ placed_at line i ∷ [])) (instr_line i) (map instr_line is ++ rest) first
     ∙ with_lines-code is (suc line) (before ++ placed_at line i ∷ []) rest (second_true (fits i) (list_all fits is) h)
     (omega (arith, g, length-append before (placed_at line i ∷ [])))
-    ∙ ap (λ (ps : List Placed). with_lines (line_behind (suc line) is) (of_code ps) rest) (append_assoc before (placed_at line i ∷ []) (placed_from (suc line) is))
+    ∙ ap (λ (ps : List Placed). with_lines (line_behind (suc line) is) (of_code ps) rest)
+    (append_assoc before (placed_at line i ∷ []) (placed_from (suc line) is))
 
 -- ---- data
 
@@ -96,15 +111,19 @@ plain_glyph (suc (suc (suc (suc (suc (suc (suc (suc (suc (suc (suc (suc zero))))
 plain_glyph (suc (suc (suc (suc (suc (suc (suc (suc (suc (suc (suc (suc (suc zero))))))))))))) h = refl
 plain_glyph (suc (suc (suc (suc (suc (suc (suc (suc (suc (suc (suc (suc (suc (suc zero)))))))))))))) h = refl
 plain_glyph (suc (suc (suc (suc (suc (suc (suc (suc (suc (suc (suc (suc (suc (suc (suc zero))))))))))))))) h = refl
-plain_glyph (suc (suc (suc (suc (suc (suc (suc (suc (suc (suc (suc (suc (suc (suc (suc (suc n)))))))))))))))) h = absurd (omega (arith, h))
+plain_glyph (suc
+    (suc (suc (suc (suc (suc (suc (suc (suc (suc (suc (suc (suc (suc (suc (suc n)))))))))))))))) h =
+    absurd (omega (arith, h))
 
 -- hex digits are plain
 plain_hex : (bytes : List ℕ) → ((k : ℕ) → get_or bytes k 0 < 256) → list_all is_plain (hex_text bytes) ≡ true
 plain_hex [] g = refl
 plain_hex (b ∷ bytes) g =
     let small : b < 256 = g 0 in
-    both_true (is_plain (hex_glyph (b / 16))) (is_plain (hex_glyph (b % 16)) && list_all is_plain (hex_text bytes)) (plain_glyph (b / 16) (omega (arith, small)))
-    (both_true (is_plain (hex_glyph (b % 16))) (list_all is_plain (hex_text bytes)) (plain_glyph (b % 16) (omega arith)) (plain_hex bytes (λ k. g (suc k))))
+    both_true (is_plain (hex_glyph (b / 16))) (is_plain (hex_glyph (b % 16))
+    && list_all is_plain (hex_text bytes)) (plain_glyph (b / 16) (omega (arith, small)))
+    (both_true (is_plain (hex_glyph (b % 16))) (list_all is_plain (hex_text bytes))
+    (plain_glyph (b % 16) (omega arith)) (plain_hex bytes (λ k. g (suc k))))
 
 -- there are two digits for each byte
 length-hex_text : (bytes : List ℕ) → length (hex_text bytes) ≡ 2 * length bytes
@@ -114,10 +133,13 @@ length-hex_text (b ∷ bytes) = omega (arith, length-hex_text bytes)
 -- hex digits read back
 hex_bytes-text : (bytes : List ℕ) → ((k : ℕ) → get_or bytes k 0 < 256) → hex_bytes (hex_text bytes) ≡ Some bytes
 hex_bytes-text bytes g =
-    hex_bytes-said (hex_text bytes) ∙ ap (λ (t : List ℕ). said (decode_of t)) (sym (encode-hex_text bytes g)) ∙ ap said (decode_of-encode_lower bytes g)
+    hex_bytes-said (hex_text bytes)
+    ∙ ap (λ (t : List ℕ). said (decode_of t)) (sym (encode-hex_text bytes g))
+    ∙ ap said (decode_of-encode_lower bytes g)
 
 -- the tests of a hex word and of the data
-data_tests : (digits bytes : List ℕ) → 2 ≤ length digits → length digits ≤ 65534 → hex_bytes digits ≡ Some bytes → length bytes ≤ 4096
+data_tests : (digits bytes : List ℕ) → 2 ≤ length digits → length digits ≤ 65534 →
+    hex_bytes digits ≡ Some bytes → length bytes ≤ 4096
     → data_after [] digits ≡ Some bytes
 data_tests digits bytes h g e f = rw (word, data_after) (rw (small (length bytes) f) refl)
   where
@@ -135,19 +157,24 @@ abbrev of_image : List Placed → List ℕ → Assembly
 of_image code body = record { code = code; body = body; labels = [] }
 
 -- the line of data
-data_line : (digits : List ℕ) → list_all is_plain digits ≡ true → is_empty digits ≡ false → statement_of (codes ".bytes " ++ digits) ≡ Ok (Data digits)
+data_line : (digits : List ℕ) → list_all is_plain digits ≡ true → is_empty digits ≡ false →
+    statement_of (codes ".bytes " ++ digits) ≡ Ok (Data digits)
 data_line digits h e =
     let words : words_of (codes ".bytes " ++ digits) ≡ codes ".bytes" ∷ digits ∷ [] =
     ap (λ (ws : List (List ℕ)). codes ".bytes" ∷ ws) (split_whole (λ b. eqb b 32) digits (no_space digits h)) in
-    statement_by (codes ".bytes " ++ digits) (codes ".bytes" ∷ digits ∷ []) (Ok (Data digits)) refl words (rw e refl) refl
+    statement_by (codes ".bytes " ++ digits) (codes ".bytes" ∷ digits ∷ []) (Ok (Data digits)) refl
+    words (rw e refl) refl
 
 -- the line of data, and the empty line behind it
-lines-data : (digits : List ℕ) → list_all is_plain digits ≡ true → lines_of (codes ".bytes " ++ digits ++ 10 ∷ []) ≡ (codes ".bytes " ++ digits) ∷ [] ∷ []
+lines-data : (digits : List ℕ) → list_all is_plain digits ≡ true →
+    lines_of (codes ".bytes " ++ digits ++ 10 ∷ []) ≡ (codes ".bytes " ++ digits) ∷ [] ∷ []
 lines-data digits h =
-    split_behind (λ b. eqb b 10) (codes ".bytes " ++ digits) 10 [] (list_all-joined (λ x. not (eqb x 10)) (codes ".bytes ") digits refl (no_newline digits h)) refl
+    split_behind (λ b. eqb b 10) (codes ".bytes " ++ digits) 10 [] (list_all-joined
+    (λ x. not (eqb x 10)) (codes ".bytes ") digits refl (no_newline digits h)) refl
 
 -- the lines of the data
-with_lines-body : (line : ℕ) (code : List Placed) (body : List ℕ) → length body ≤ 4096 → ((k : ℕ) → get_or body k 0 < 256)
+with_lines-body : (line : ℕ) (code : List Placed) (body : List ℕ) → length body ≤ 4096 →
+    ((k : ℕ) → get_or body k 0 < 256)
     → with_lines line (of_code code) (lines_of (body_text body)) ≡ Ok (of_image code body)
 with_lines-body line code [] h g = refl
 with_lines-body line code (b ∷ bytes) h g =

@@ -1,18 +1,28 @@
 -- The words that the disassembler writes, read back.
-use Rattle.std.proofs.Common.{◌≡◌, ℕ, zero, suc, ◌^◌, ◌<◌, ◌≤◌, Bool, true, false, not, cond, ◌&&◌, eqb, ltb, leb, List, [], ◌∷◌, ◌++◌, length, decimal, None, Some, Result, Ok, refl, sym, ap, ◌∙◌, arith}
+use Rattle.std.proofs.Common.{◌≡◌, ℕ, zero, suc, ◌^◌, ◌<◌, ◌≤◌, Bool, true, false, not, cond, ◌&&◌}
+use Rattle.std.proofs.Common.{eqb, ltb, leb, List, [], ◌∷◌, ◌++◌, length, decimal, None, Some}
+use Rattle.std.proofs.Common.{Result, Ok, refl, sym, ap, ◌∙◌, arith}
 use Rattle.std.specs.Fmt.{digits}
 use Rattle.std.specs.List.{list_all, list_any, slice_split, onto_first}
 use Rattle.std.proofs.lemmas.Bool.{eqb-true, ltb-true}
 use Rattle.std.proofs.lemmas.Bool.Decides.{nat_tests}
 use Rattle.std.proofs.lemmas.Fmt.{digits_decimal, digits_value-decimal, decimal_nonempty, length-decimal-le}
 use Rattle.std.proofs.lemmas.List.{append-nil}
-use Rattle.kernel_model.specs.declared.AsmKind.{AsmKind}
-use Rattle.kernel_model.specs.declared.Instr.{Instr}
-use Rattle.kernel_model.specs.declared.Op.{Op}
-use Rattle.kernel_model.specs.declared.Op.TheVariants.{Li, Mov, Add, Sub, Mul, And, Or, Xor, Shl, Shr, Divu, Remu, Sltu, Addi, Andi, Ldw, Stw, Ldb, Stb, Jmp, Jz, Jnz, Call, Callr, Trap, Ret}
-use Rattle.kernel_model.specs.Bytes.{is_digit, digits_value, number_of}
-use Rattle.kernel_model.specs.Instructions.{row_of, fits, is_register_field, is_imm_field}
-use Rattle.kernel_model.specs.Assembler.{callable_id, words_of, is_empty, is_passed_over, register_of, imm_of, register_field, imm_field, Statement, Instruction, or_bad_operands, with_c, operands_of, by_words, statement_of, register_word, imm_word, operand_text, instr_line}
+use Rattle.graft_texts.specs.declared.AsmKind.{AsmKind}
+use Rattle.graft_texts.specs.declared.Instr.{Instr}
+use Rattle.graft_texts.specs.declared.Op.{Op}
+use Rattle.graft_texts.specs.declared.Op.TheVariants.{Li, Mov, Add, Sub, Mul, And, Or, Xor, Shl}
+use Rattle.graft_texts.specs.declared.Op.TheVariants.{Shr, Divu, Remu, Sltu, Addi, Andi, Ldw, Stw}
+use Rattle.graft_texts.specs.declared.Op.TheVariants.{Ldb, Stb, Jmp, Jz, Jnz, Call, Callr, Trap}
+use Rattle.graft_texts.specs.declared.Op.TheVariants.{Ret}
+use Rattle.graft_texts.specs.Bytes.{is_digit, digits_value, number_of}
+use Rattle.graft_texts.specs.Instructions.{row_of, fits, is_register_field, is_imm_field}
+use Rattle.graft_texts.specs.Callables.{callable_id}
+use Rattle.graft_texts.specs.Assembler.{words_of, is_empty, is_passed_over, register_of, imm_of}
+use Rattle.graft_texts.specs.Assembler.{register_field, imm_field, Statement, Instruction}
+use Rattle.graft_texts.specs.Assembler.{or_bad_operands, with_c, operands_of, by_words}
+use Rattle.graft_texts.specs.Assembler.{statement_of, register_word, imm_word, operand_text}
+use Rattle.graft_texts.specs.Assembler.{instr_line}
 use Rattle.gm_asm.proofs.Digits.{own}
 
 -- ---- tests of lists
@@ -38,16 +48,20 @@ not_true true h = cc
 not_true false h = refl
 
 -- what passes a test passes a weaker one
-pub list_all-weaker : {A : Type 0} (p q : A → Bool) (xs : List A) → ((x : A) → p x ≡ true → q x ≡ true) → list_all p xs ≡ true → list_all q xs ≡ true
+pub list_all-weaker : {A : Type 0} (p q : A → Bool) (xs : List A) →
+    ((x : A) → p x ≡ true → q x ≡ true) → list_all p xs ≡ true → list_all q xs ≡ true
 list_all-weaker p q [] f h = refl
 list_all-weaker p q (x ∷ xs) f h =
-    both_true (q x) (list_all q xs) (f x (first_true (p x) (list_all p xs) h)) (list_all-weaker p q xs f (second_true (p x) (list_all p xs) h))
+    both_true (q x) (list_all q xs) (f x (first_true (p x) (list_all p xs) h))
+    (list_all-weaker p q xs f (second_true (p x) (list_all p xs) h))
 
 -- a list of two lists
-pub list_all-joined : {A : Type 0} (p : A → Bool) (xs ys : List A) → list_all p xs ≡ true → list_all p ys ≡ true → list_all p (xs ++ ys) ≡ true
+pub list_all-joined : {A : Type 0} (p : A → Bool) (xs ys : List A) → list_all p xs ≡ true →
+    list_all p ys ≡ true → list_all p (xs ++ ys) ≡ true
 list_all-joined p [] ys h g = g
 list_all-joined p (x ∷ xs) ys h g =
-    both_true (p x) (list_all p (xs ++ ys)) (first_true (p x) (list_all p xs) h) (list_all-joined p xs ys (second_true (p x) (list_all p xs) h) g)
+    both_true (p x) (list_all p (xs ++ ys)) (first_true (p x) (list_all p xs) h)
+    (list_all-joined p xs ys (second_true (p x) (list_all p xs) h) g)
 
 -- ---- splits
 
@@ -78,11 +92,15 @@ is_word w = not (is_empty w) && list_all is_plain w
 
 -- no space
 pub no_space : (xs : List ℕ) → list_all is_plain xs ≡ true → list_all (λ x. not (eqb x 32)) xs ≡ true
-no_space xs h = list_all-weaker is_plain (λ x. not (eqb x 32)) xs (λ x g. first_true (not (eqb x 32)) (not (eqb x 10)) g) h
+no_space xs h =
+    list_all-weaker is_plain (λ x. not (eqb x 32)) xs
+    (λ x g. first_true (not (eqb x 32)) (not (eqb x 10)) g) h
 
 -- no newline
 pub no_newline : (xs : List ℕ) → list_all is_plain xs ≡ true → list_all (λ x. not (eqb x 10)) xs ≡ true
-no_newline xs h = list_all-weaker is_plain (λ x. not (eqb x 10)) xs (λ x g. second_true (not (eqb x 32)) (not (eqb x 10)) g) h
+no_newline xs h =
+    list_all-weaker is_plain (λ x. not (eqb x 10)) xs
+    (λ x g. second_true (not (eqb x 32)) (not (eqb x 10)) g) h
 
 -- the plain bytes of a word
 pub plain_word : (w : List ℕ) → is_word w ≡ true → list_all is_plain w ≡ true
@@ -94,24 +112,29 @@ tail_text [] = []
 tail_text (w ∷ ws) = 32 ∷ (w ++ tail_text ws)
 
 -- the words of a line of words
-pub words-tail : (w : List ℕ) (ws : List (List ℕ)) → is_word w ≡ true → list_all is_word ws ≡ true → words_of (w ++ tail_text ws) ≡ w ∷ ws
+pub words-tail : (w : List ℕ) (ws : List (List ℕ)) → is_word w ≡ true → list_all is_word ws ≡ true →
+    words_of (w ++ tail_text ws) ≡ w ∷ ws
 words-tail w [] h g = rw append-nil (split_whole (λ b. eqb b 32) w (no_space w (plain_word w h)))
 words-tail w (v ∷ vs) h g =
     split_behind (λ b. eqb b 32) w 32 (v ++ tail_text vs) (no_space w (plain_word w h)) refl
-    ∙ ap (λ (ws : List (List ℕ)). w ∷ ws) (words-tail v vs (first_true (is_word v) (list_all is_word vs) g) (second_true (is_word v) (list_all is_word vs) g))
+    ∙ ap (λ (ws : List (List ℕ)). w ∷ ws) (words-tail v vs (first_true (is_word v)
+    (list_all is_word vs) g) (second_true (is_word v) (list_all is_word vs) g))
 
 -- no word of these is empty
 pub none_empty : (ws : List (List ℕ)) → list_all is_word ws ≡ true → list_any is_empty ws ≡ false
 none_empty [] h = refl
 none_empty (w ∷ ws) h =
-    rw (not_true (is_empty w) (first_true (not (is_empty w)) (list_all is_plain w) (first_true (is_word w) (list_all is_word ws) h)))
+    rw (not_true (is_empty w) (first_true (not (is_empty w)) (list_all is_plain w)
+    (first_true (is_word w) (list_all is_word ws) h)))
     (none_empty ws (second_true (is_word w) (list_all is_word ws) h))
 
 -- a line of words has no newline
-pub tail-no_newline : (ws : List (List ℕ)) → list_all is_word ws ≡ true → list_all (λ x. not (eqb x 10)) (tail_text ws) ≡ true
+pub tail-no_newline : (ws : List (List ℕ)) → list_all is_word ws ≡ true →
+    list_all (λ x. not (eqb x 10)) (tail_text ws) ≡ true
 tail-no_newline [] h = refl
 tail-no_newline (w ∷ ws) h =
-    list_all-joined (λ x. not (eqb x 10)) w (tail_text ws) (no_newline w (plain_word w (first_true (is_word w) (list_all is_word ws) h)))
+    list_all-joined (λ x. not (eqb x 10)) w (tail_text ws)
+    (no_newline w (plain_word w (first_true (is_word w) (list_all is_word ws) h)))
     (tail-no_newline ws (second_true (is_word w) (list_all is_word ws) h))
 
 -- ---- numbers
@@ -135,15 +158,18 @@ not_empty xs h = grind (arith, nat_tests)
 -- a number is a word
 pub word_decimal : (n : ℕ) → n < 2 ^ 32 → is_word (decimal n) ≡ true
 word_decimal n h =
-    both_true (not (is_empty (decimal n))) (list_all is_plain (decimal n)) (not_empty (decimal n) (decimal_nonempty n (omega (arith, h)))) (plain_decimal n h)
+    both_true (not (is_empty (decimal n))) (list_all is_plain (decimal n))
+    (not_empty (decimal n) (decimal_nonempty n (omega (arith, h)))) (plain_decimal n h)
 
 -- a byte and plain bytes are a word
 word_after : (x : ℕ) (xs : List ℕ) → is_plain x ≡ true → list_all is_plain xs ≡ true → is_word (x ∷ xs) ≡ true
 word_after x xs h g =
-    both_true (not (is_empty (x ∷ xs))) (list_all is_plain (x ∷ xs)) (not_empty (x ∷ xs) (omega arith)) (both_true (is_plain x) (list_all is_plain xs) h g)
+    both_true (not (is_empty (x ∷ xs))) (list_all is_plain (x ∷ xs))
+    (not_empty (x ∷ xs) (omega arith)) (both_true (is_plain x) (list_all is_plain xs) h g)
 
 -- the tests of a number
-number_by : (text : List ℕ) (n : ℕ) → 1 ≤ length text → length text ≤ 10 → list_all is_digit text ≡ true → digits_value text ≡ n → n < 2 ^ 32
+number_by : (text : List ℕ) (n : ℕ) → 1 ≤ length text → length text ≤ 10 →
+    list_all is_digit text ≡ true → digits_value text ≡ n → n < 2 ^ 32
     → number_of text ≡ Some n
 number_by text n h g d v small = rw (v, d) (number_tests (length text) n h g small)
   where
@@ -154,7 +180,8 @@ number_by text n h g d v small = rw (v, d) (number_tests (length text) n h g sma
 -- a number reads back
 pub number_of-decimal : (n : ℕ) → n < 2 ^ 32 → number_of (decimal n) ≡ Some n
 number_of-decimal n h =
-    number_by (decimal n) n (omega (arith, decimal_nonempty n (omega (arith, h)))) (length-decimal-le 10 n (omega arith) (omega (arith, h)) (omega (arith, h)))
+    number_by (decimal n) n (omega (arith, decimal_nonempty n (omega (arith, h))))
+    (length-decimal-le 10 n (omega arith) (omega (arith, h)) (omega (arith, h)))
     (decimal_digits n h) (digits_value-decimal own n (omega (arith, h))) h
 
 -- ---- operands
@@ -178,7 +205,9 @@ register_of-word (suc (suc (suc (suc (suc (suc (suc (suc (suc (suc (suc (suc zer
 register_of-word (suc (suc (suc (suc (suc (suc (suc (suc (suc (suc (suc (suc (suc zero))))))))))))) h = refl
 register_of-word (suc (suc (suc (suc (suc (suc (suc (suc (suc (suc (suc (suc (suc (suc zero)))))))))))))) h = refl
 register_of-word (suc (suc (suc (suc (suc (suc (suc (suc (suc (suc (suc (suc (suc (suc (suc zero))))))))))))))) h = refl
-register_of-word (suc (suc (suc (suc (suc (suc (suc (suc (suc (suc (suc (suc (suc (suc (suc (suc n)))))))))))))))) h = absurd (omega (arith, h))
+register_of-word (suc
+    (suc (suc (suc (suc (suc (suc (suc (suc (suc (suc (suc (suc (suc (suc (suc n)))))))))))))))) h =
+    absurd (omega (arith, h))
 
 -- a register's word is one
 word_register : (n : ℕ) → n < 2 ^ 32 → is_word (register_word n) ≡ true
@@ -187,7 +216,8 @@ word_register n h = word_after 114 (decimal n) refl (plain_decimal n h)
 -- no name of the callable list begins with a digit
 callable_id-digits : (d : ℕ) (ds : List ℕ) → is_digit d ≡ true → callable_id (d ∷ ds) ≡ None
 callable_id-digits d ds h =
-    rw (other 99 refl) (rw (other 110 refl) (rw (other 119 refl) (rw (other 102 refl) (rw (other 116 refl) (rw (other 97 refl) refl)))))
+    rw (other 99 refl) (rw (other 110 refl)
+    (rw (other 119 refl) (rw (other 102 refl) (rw (other 116 refl) (rw (other 97 refl) refl)))))
   where
     other : (letter : ℕ) → ltb 96 letter ≡ true → eqb d letter ≡ false
     other letter g = grind (arith, nat_tests)
@@ -202,7 +232,9 @@ pub imm_of-word : (op : Op) (n : ℕ) → n < 2 ^ 32 → imm_of op (imm_word op 
 imm_of-word Jmp n h = rw (number_of-decimal n h) refl
 imm_of-word Jz n h = rw (number_of-decimal n h) refl
 imm_of-word Jnz n h = rw (number_of-decimal n h) refl
-imm_of-word Call n h = rw (callable_id-number (decimal n) (decimal_nonempty n (omega (arith, h))) (decimal_digits n h)) (rw (number_of-decimal n h) refl)
+imm_of-word Call n h =
+    rw (callable_id-number (decimal n) (decimal_nonempty n (omega (arith, h))) (decimal_digits n h))
+    (rw (number_of-decimal n h) refl)
 imm_of-word _ n h = rw (number_of-decimal n h) refl
 
 -- an imm's word is one
@@ -238,7 +270,8 @@ below_word true n h = ltb-true n (2 ^ 32) h
 below_word false n h = omega (arith, eqb-true n 0 h)
 
 -- words, one of which may not be there
-pub words_all : (named : Bool) (word : List ℕ) (words : List (List ℕ)) → is_word word ≡ true → list_all is_word words ≡ true
+pub words_all : (named : Bool) (word : List ℕ) (words : List (List ℕ)) → is_word word ≡ true →
+    list_all is_word words ≡ true
     → list_all is_word (operand_words named word words) ≡ true
 words_all true word words h g = both_true (is_word word) (list_all is_word words) h g
 words_all false word words h g = g
@@ -251,9 +284,12 @@ register_field-words false n words h = ap (λ (m : ℕ). Some (record { value = 
 
 -- an imm's field reads back
 pub imm_field-words : (op : Op) (named : Bool) (n : ℕ) → is_imm_field named n ≡ true
-    → imm_field op named (operand_words named (imm_word op n) []) ≡ Some (record { value = record { value = n; label = None }; rest = [] })
+    → imm_field op named (operand_words named (imm_word op n) [])
+    ≡ Some (record { value = record { value = n; label = None }; rest = [] })
 imm_field-words op true n h = rw (imm_of-word op n (ltb-true n (2 ^ 32) h)) refl
-imm_field-words op false n h = ap (λ (m : ℕ). Some (record { value = record { value = m; label = None }; rest = [] })) (sym (eqb-true n 0 h))
+imm_field-words op false n h =
+    ap (λ (m : ℕ). Some (record { value = record { value = m; label = None }; rest = [] }))
+    (sym (eqb-true n 0 h))
 
 -- ---- instructions
 
@@ -316,7 +352,8 @@ not_passed_over Trap rest = refl
 not_passed_over Ret rest = refl
 
 -- a line that begins with a mnemonic says an instruction
-pub by_words-name : (op : Op) (words : List (List ℕ)) → by_words ((row_of op).name ∷ words) ≡ or_bad_operands (operands_of op words)
+pub by_words-name : (op : Op) (words : List (List ℕ)) →
+    by_words ((row_of op).name ∷ words) ≡ or_bad_operands (operands_of op words)
 by_words-name Li words = refl
 by_words-name Mov words = refl
 by_words-name Add words = refl
@@ -348,7 +385,8 @@ by_words-name Ret words = refl
 abbrev pub operand_list : Instr → List (List ℕ)
 operand_list i =
     let f = (row_of i.op).form in
-    operand_words f.a (register_word i.a) (operand_words f.b (register_word i.b) (operand_words f.c (register_word i.c) (operand_words f.imm (imm_word i.op i.imm) [])))
+    operand_words f.a (register_word i.a) (operand_words f.b (register_word i.b)
+    (operand_words f.c (register_word i.c) (operand_words f.imm (imm_word i.op i.imm) [])))
 
 -- the fields of an instruction that fits
 pub record Fields (i : Instr) : Type 0 where
@@ -367,13 +405,19 @@ fields_fit i h =
     let ri = is_imm_field f.imm i.imm in
     let abc = first_true (ra && rb && rc) ri h in
     let ab = first_true (ra && rb) rc abc in
-    record { a = first_true ra rb ab; b = second_true ra rb ab; c = second_true (ra && rb) rc abc; imm = second_true (ra && rb && rc) ri h }
+    record {
+      a = first_true ra rb ab;
+      b = second_true ra rb ab;
+      c = second_true (ra && rb) rc abc;
+      imm = second_true (ra && rb && rc) ri h;
+    }
 
 -- the operands of an instruction read back
 pub operands_of-list : (i : Instr) → Fields i → operands_of i.op (operand_list i) ≡ Some (Instruction i None)
 operands_of-list i h =
     let f = (row_of i.op).form in
-    rw (register_field-words f.a i.a _ h.a) (rw (register_field-words f.b i.b _ h.b) (rw (register_field-words f.c i.c _ h.c)
+    rw (register_field-words f.a i.a _ h.a)
+    (rw (register_field-words f.b i.b _ h.b) (rw (register_field-words f.c i.c _ h.c)
     (rw (imm_field-words i.op f.imm i.imm h.imm, with_c) refl)))
 
 -- the operands are words
@@ -390,11 +434,13 @@ pub line_is : (i : Instr) → instr_line i ≡ (row_of i.op).name ++ tail_text (
 line_is i =
     let f = (row_of i.op).form in
     ap (λ (t : List ℕ). (row_of i.op).name ++ t)
-    (operand_tail f.a (register_word i.a) _ _ (operand_tail f.b (register_word i.b) _ _ (operand_tail f.c (register_word i.c) _ _
+    (operand_tail f.a (register_word i.a) _ _
+    (operand_tail f.b (register_word i.b) _ _ (operand_tail f.c (register_word i.c) _ _
     (operand_last f.imm (imm_word i.op i.imm)))))
 
 -- a line of words that says this
-pub statement_by : (line : List ℕ) (words : List (List ℕ)) (said : Result Statement AsmKind) → is_passed_over line ≡ false → words_of line ≡ words
+pub statement_by : (line : List ℕ) (words : List (List ℕ)) (said : Result Statement AsmKind) →
+    is_passed_over line ≡ false → words_of line ≡ words
     → list_any is_empty words ≡ false → by_words words ≡ said → statement_of line ≡ said
 statement_by line words said h w e b = rw (h, statement_of) (rw w (rw e (ap by_words w ∙ b)))
 
@@ -405,7 +451,8 @@ statement_of-line i h =
     let all = operands_are_words i g in
     let words = (row_of i.op).name ∷ operand_list i in
     rw (line_is i)
-    (statement_by ((row_of i.op).name ++ tail_text (operand_list i)) words (Ok (Instruction i None)) (not_passed_over i.op (tail_text (operand_list i)))
+    (statement_by ((row_of i.op).name ++ tail_text (operand_list i)) words (Ok (Instruction i None))
+    (not_passed_over i.op (tail_text (operand_list i)))
     (words-tail (row_of i.op).name (operand_list i) (word_name i.op) all)
     (none_empty words (both_true (is_word (row_of i.op).name) (list_all is_word (operand_list i)) (word_name i.op) all))
     (by_words-name i.op (operand_list i) ∙ ap or_bad_operands (operands_of-list i g)))
@@ -414,5 +461,6 @@ statement_of-line i h =
 pub line-no_newline : (i : Instr) → fits i ≡ true → list_all (λ x. not (eqb x 10)) (instr_line i) ≡ true
 line-no_newline i h =
     rw (line_is i)
-    (list_all-joined (λ x. not (eqb x 10)) (row_of i.op).name (tail_text (operand_list i)) (no_newline (row_of i.op).name (plain_word (row_of i.op).name (word_name i.op)))
+    (list_all-joined (λ x. not (eqb x 10)) (row_of i.op).name (tail_text (operand_list i))
+    (no_newline (row_of i.op).name (plain_word (row_of i.op).name (word_name i.op)))
     (tail-no_newline (operand_list i) (operands_are_words i (fields_fit i h))))

@@ -1,9 +1,9 @@
 -- Texts and what they assemble to, computed.
 use Rattle.std.specs.Prelude.{◌≡◌, false, [], ◌∷◌, codes, refl, Ok, Err}
 use Rattle.std.specs.Fmt.{digits}
-use Rattle.kernel_model.specs.declared.AsmKind.TheVariants.{UnknownMnemonic, BadOperands, LabelNotSet, LabelSetTwice}
-use Rattle.kernel_model.specs.declared.Op.TheVariants.{Li, Jmp, Ret}
-use Rattle.kernel_model.specs.Assembler.{assemble, disassemble}
+use Rattle.graft_texts.specs.declared.AsmKind.TheVariants.{UnknownMnemonic, BadOperands, LabelNotSet, LabelSetTwice}
+use Rattle.graft_texts.specs.declared.Op.TheVariants.{Li, Jmp, Ret}
+use Rattle.graft_texts.specs.Assembler.{assemble, disassemble}
 
 unset_label : assemble (codes "jmp a\n") ≡ Err (record { line = 1; kind = LabelNotSet })
 unset_label = refl

@@ -1,6 +1,6 @@
 -- What the faults of the assembler stand for.
 use Rattle.std.specs.Prelude.{◌≡◌, Result, Err}
-use Rattle.kernel_model.specs.Assembler.{LineFault}
+use Rattle.graft_texts.specs.Assembler.{LineFault}
 use Rattle.gm_asm.specs.declared.AsmFault.{AsmFault}
 use Rattle.gm_asm.specs.declared.AsmFault.TheVariants.{At, NoMemory}
 

@@ -1,8 +1,8 @@
 -- The law of the assembler.
 use Rattle.std.specs.Prelude.{◌≡◌, ℕ, ◌<◌, slice_index, Ok}
-use Rattle.kernel_model.specs.World.{Image, plain_image}
-use Rattle.kernel_model.specs.Images.{IsRawImage}
-use Rattle.kernel_model.specs.Assembler.{assemble, disassemble}
+use Rattle.graft_texts.specs.World.{Image, plain_image}
+use Rattle.graft_texts.specs.Images.{IsRawImage}
+use Rattle.graft_texts.specs.Assembler.{assemble, disassemble}
 
 -- the text of an image assembles to the image of its code and data
 abbrev pub AssembleUndoesDisassemble : Type 0

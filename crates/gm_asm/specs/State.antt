@@ -3,7 +3,7 @@ use Rattle.std.specs.Prelude.{◌≡◌, ◌≤◌, ℕ, Bool, true, List, lengt
 use Rattle.std.specs.List.{list_all}
 use Rattle.std.specs.Borrow.{Bor}
 use Rattle.std.specs.Option.{option_copied}
-use Rattle.kernel_model.specs.Assembler as spec
+use Rattle.graft_texts.specs.Assembler as spec
 use Rattle.gm_asm.specs.declared.assembly.Placed.{Placed}
 use Rattle.gm_asm.specs.Views.{is_placed}
 

@@ -2,10 +2,10 @@
 use Rattle.std.specs.Prelude.{◌≡◌, ℕ, Bool, true, not, ◌&&◌, ◌||◌, is_some, List, Option, option_map, Result, Ok, Err}
 use Rattle.std.specs.Global.{Vec}
 use Rattle.std.specs.Option.{option_copied}
-use Rattle.kernel_model.specs.declared.AsmKind.{AsmKind}
-use Rattle.kernel_model.specs.declared.Instr.{Instr}
-use Rattle.kernel_model.specs.Instructions.{row_of, fits}
-use Rattle.kernel_model.specs.Assembler as spec
+use Rattle.graft_texts.specs.declared.AsmKind.{AsmKind}
+use Rattle.graft_texts.specs.declared.Instr.{Instr}
+use Rattle.graft_texts.specs.Instructions.{row_of, fits}
+use Rattle.graft_texts.specs.Assembler as spec
 use Rattle.gm_asm.specs.declared.words.Imm.{Imm}
 use Rattle.gm_asm.specs.declared.statement.Statement.{Statement}
 use Rattle.gm_asm.specs.declared.statement.Statement.TheVariants.{Blank, SetsLabel, Data, Instruction}

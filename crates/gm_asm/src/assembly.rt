@@ -2,7 +2,7 @@
 
 ghost use Rattle.std.specs.Prelude.{◌≡◌, ◌≤◌, ◌++◌, [], ◌∷◌, length, map, true, Ok, IfOk, IfErr, OnOk, OnErr, is_some};
 ghost use Rattle.std.specs.Option.{option_copied};
-ghost use Rattle.kernel_model.specs.Assembler as spec;
+ghost use Rattle.graft_texts.specs.Assembler as spec;
 ghost use Rattle.gm_asm.specs.Faults.{Refuses};
 ghost use Rattle.gm_asm.specs.Views.{is_placed};
 ghost use Rattle.gm_asm.specs.State.{label_view};
@@ -11,10 +11,9 @@ use crate::AsmFault;
 use crate::data::add_data;
 use crate::link::link_code;
 use crate::statement::{Statement, statement_of};
-use gm_image::RawImage;
-use gm_isa::Instr;
+use gm_image::{Instr, RawImage};
+use graft_texts::{AsmKind, NoMemory};
 use indexmap::IndexMap;
-use kernel_model::{AsmKind, NoMemory};
 use std::alloc::Global;
 use std::marker::Model;
 use text_words::Parts;
@@ -40,7 +39,7 @@ pub struct Assembly<'a> {
 }
 
 impl<'a> Model for Assembly<'a> {
-    ghost use Rattle.kernel_model.specs.Assembler as spec;
+    ghost use Rattle.graft_texts.specs.Assembler as spec;
     ghost use Rattle.gm_asm.specs.State.{assembly_of, IsWithin};
 
     ghost Value = { spec.Assembly };

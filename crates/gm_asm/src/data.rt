@@ -1,12 +1,12 @@
 //! Data bytes of assembler text.
 
 ghost use Rattle.std.specs.Prelude.{◌≡◌, ◌≤◌, Some, None, IfOk, MatchBool, vec_len};
-ghost use Rattle.kernel_model.specs.Assembler as spec;
-ghost use Rattle.kernel_model.specs.Bytes.{hex_bytes};
+ghost use Rattle.graft_texts.specs.Assembler as spec;
+ghost use Rattle.graft_texts.specs.Bytes.{hex_bytes};
 ghost use Rattle.gm_asm.specs.Views.{bytes_view};
 
+use graft_texts::NoMemory;
 use hex::FromHexError;
-use kernel_model::NoMemory;
 use std::alloc::Global;
 
 /// The most data bytes of an image.

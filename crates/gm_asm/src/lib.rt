@@ -2,7 +2,7 @@
 #![tactic(auto)]
 
 ghost use Rattle.std.specs.Prelude.{◌≡◌, ◌≤◌, length, Ok, IfOk, IfErr};
-ghost use Rattle.kernel_model.specs.Assembler as spec;
+ghost use Rattle.graft_texts.specs.Assembler as spec;
 ghost use Rattle.gm_asm.specs.Faults.{Refuses};
 
 mod assembly;
@@ -16,7 +16,7 @@ mod words;
 use crate::assembly::read_lines;
 use crate::print::{append_body, append_code};
 use gm_image::RawImage;
-pub use kernel_model::{AsmKind, NoMemory};
+pub use graft_texts::{AsmKind, NoMemory};
 use std::alloc::Global;
 use thiserror::Error;
 

@@ -3,15 +3,15 @@
 ghost use Rattle.std.specs.Prelude.{◌≡◌, ◌++◌, [], ◌∷◌, length, map, true, Ok, IfOk, IfErr, OnOk};
 ghost use Rattle.std.specs.List.{list_all};
 ghost use Rattle.std.specs.Option.{option_copied};
-ghost use Rattle.kernel_model.specs.Assembler as spec;
-ghost use Rattle.kernel_model.specs.Instructions.{fits};
+ghost use Rattle.graft_texts.specs.Assembler as spec;
+ghost use Rattle.graft_texts.specs.Instructions.{fits};
 ghost use Rattle.gm_asm.specs.Faults.{Refuses};
 ghost use Rattle.gm_asm.specs.State.{placed_view, label_view, is_placed_instr};
 
 use crate::AsmFault;
 use crate::assembly::{Labels, Placed, place_of};
-use gm_isa::Instr;
-use kernel_model::{AsmKind, NoMemory};
+use gm_image::Instr;
+use graft_texts::{AsmKind, NoMemory};
 use std::alloc::Global;
 
 /// An instruction whose label, if it has one, has become the number of an instruction.

@@ -1,30 +1,13 @@
 //! Assembler text of an image.
 
-ghost use Rattle.std.specs.Prelude.{◌≡◌, ◌++◌, [], ◌∷◌, codes, decimal, flat_map, OnOk};
-ghost use Rattle.kernel_model.specs.Assembler as spec;
+ghost use Rattle.std.specs.Prelude.{◌≡◌, ◌++◌, [], ◌∷◌, codes, flat_map, OnOk};
+ghost use Rattle.graft_texts.specs.Assembler as spec;
 ghost use Rattle.hex.specs.Hex.{encode_lower};
 
-use gm_isa::{Instr, Op, form_of, name_of};
-use kernel_model::NoMemory;
+use gm_image::{Instr, Op, form_of, name_of};
+use graft_texts::NoMemory;
 use std::alloc::Global;
-
-/// Appends bytes.
-fn append(out: &mut Vec<u8>, bytes: &[u8]) -> Result<(), NoMemory>
-    ensures { OnOk result (out.new.items ≡ out.old.items ++ bytes.now) }
-{
-    match out.extend_from_slice(bytes) {
-        Ok(()) => Ok(()),
-        Err(_) => Err(NoMemory),
-    }
-}
-
-/// Appends a number in decimal.
-fn append_number(out: &mut Vec<u8>, n: u32) -> Result<(), NoMemory>
-    ensures { OnOk result (out.new.items ≡ out.old.items ++ decimal n) }
-{
-    let mut buffer = itoa::Buffer::new();
-    append(out, buffer.format(n).as_bytes())
-}
+use text_words::{append, append_number};
 
 /// Appends a space and a register, if its field is named.
 fn append_register(out: &mut Vec<u8>, named: bool, n: u8) -> Result<(), NoMemory>

@@ -2,13 +2,13 @@
 
 ghost use Rattle.std.specs.Prelude.{◌≡◌, true, IsSome, IfSome, IfOk, option_map};
 ghost use Rattle.std.specs.List.{list_any};
-ghost use Rattle.kernel_model.specs.Instructions.{is_register_field, is_imm_field, op_named};
-ghost use Rattle.kernel_model.specs.Assembler as spec;
+ghost use Rattle.graft_texts.specs.Instructions.{is_register_field, is_imm_field, op_named};
+ghost use Rattle.graft_texts.specs.Assembler as spec;
 ghost use Rattle.gm_asm.specs.Views.{imm_view, statement_view, said_view, StatementFits};
 
 use crate::words::{Imm, imm_of, label_set_by, register_of};
-use gm_isa::{Instr, Op, form_of};
-use kernel_model::AsmKind;
+use gm_image::{Instr, Op, form_of};
+use graft_texts::AsmKind;
 use text_words::Parts;
 
 /// What a line says.
@@ -80,7 +80,7 @@ fn by_mnemonic<'a>(first: &[u8], words: &mut Parts<'a>) -> Result<Statement<'a>,
     ensures said { said_view result ≡ spec.by_mnemonic (op_named first.now) words.old }
     ensures fits { IfOk result StatementFits }
 {
-    match gm_isa::op_named(first) {
+    match gm_image::op_named(first) {
         None => Err(AsmKind::UnknownMnemonic),
         Some(op) => match operands_of(op, words) {
             None => Err(AsmKind::BadOperands),

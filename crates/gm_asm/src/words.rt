@@ -3,11 +3,11 @@
 ghost use Rattle.std.specs.Prelude.{◌≡◌};
 ghost use Rattle.std.specs.Option.{option_map, option_copied};
 ghost use Rattle.gm_asm.specs.Views.{imm_view};
-ghost use Rattle.kernel_model.specs.Bytes as model;
-ghost use Rattle.kernel_model.specs.Assembler as spec;
+ghost use Rattle.graft_texts.specs.Bytes as model;
+ghost use Rattle.graft_texts.specs.Assembler as spec;
 
 use accessor_list::id_of;
-use gm_isa::Op;
+use gm_image::Op;
 use text_words::{is_label, number_of, place_of};
 
 /// An imm as it is written: a number, or a label that is to give it, and then 0.

@@ -1,16 +1,19 @@
 -- Reading code word by word.
-use Rattle.std.proofs.Common.{◌≡◌, ℕ, suc, ◌+◌, ◌-◌, ◌*◌, ◌<◌, ◌≤◌, Bool, true, false, not, List, [], ◌∷◌, ◌++◌, length, take, drop, Result, Ok, Err, refl, sym, ap, ◌∙◌, append_assoc, add-one, arith, length-append, length-drop, ltb, codes}
+use Rattle.std.proofs.Common.{◌≡◌, ℕ, suc, ◌+◌, ◌-◌, ◌*◌, ◌<◌, ◌≤◌, Bool, true, false, not, List}
+use Rattle.std.proofs.Common.{[], ◌∷◌, ◌++◌, length, take, drop, Result, Ok, Err, refl, sym, ap}
+use Rattle.std.proofs.Common.{◌∙◌, append_assoc, add-one, arith, length-append, length-drop, ltb}
+use Rattle.std.proofs.Common.{codes}
 use Rattle.std.proofs.lemmas.List.{append-nil}
 use Rattle.std.proofs.lemmas.List.Folds.{list_all-append}
 use Rattle.std.specs.List.{list_all}
-use Rattle.kernel_model.specs.declared.Instr.{Instr}
-use Rattle.kernel_model.specs.declared.IsaFault.{IsaFault}
+use Rattle.graft_code.specs.declared.Instr.{Instr}
+use Rattle.graft_code.specs.declared.IsaFault.{IsaFault}
 use Rattle.std.proofs.lemmas.Bool.{eq-eqb}
 use Rattle.std.proofs.lemmas.Bool.Decides.{nat_tests}
-use Rattle.kernel_model.specs.Bytes.{word_at}
-use Rattle.kernel_model.specs.World.{same_bytes}
-use Rattle.kernel_model.specs.Images.{LoadFault, BadOp, with_first, decoded, is_too_large, parts_of, read_raw}
-use Rattle.kernel_model.specs.Instructions.{decode, fits}
+use Rattle.graft_code.specs.Bytes.{word_at}
+use Rattle.graft_code.specs.World.{same_bytes}
+use Rattle.graft_code.specs.Images.{LoadFault, BadOp, with_first, decoded, is_too_large, parts_of, read_raw}
+use Rattle.graft_code.specs.Instructions.{decode, fits}
 
 -- instructions before the others, unless one of these is refused
 abbrev pub behind : List Instr → Result (List Instr) LoadFault → Result (List Instr) LoadFault
@@ -36,7 +39,8 @@ said_first : (code : List Instr) (n m pc : ℕ) (rest : List ℕ) (i : Instr) �
 said_first code n m pc rest i e d = rw e (rw d (behind-with_first code i pc (decoded m (suc pc) (drop 8 rest))))
 
 -- one more word is an instruction
-pub Reads-more : (n : ℕ) (bytes : List ℕ) (code : List Instr) (pc : ℕ) (rest : List ℕ) (i : Instr) → Reads n bytes code pc rest → 8 ≤ length rest
+pub Reads-more : (n : ℕ) (bytes : List ℕ) (code : List Instr) (pc : ℕ) (rest : List ℕ) (i : Instr) →
+    Reads n bytes code pc rest → 8 ≤ length rest
     → decode (take 8 rest) ≡ Ok i → fits i ≡ true → Reads n bytes (code ++ i ∷ []) (pc + 1) (drop 8 rest)
 Reads-more n bytes code pc rest i h room d f =
     let e : n - pc ≡ suc (n - (pc + 1)) = omega (arith, h.left) in
@@ -48,18 +52,12 @@ Reads-more n bytes code pc rest i h room d f =
     }
 
 -- a word that is no instruction
-pub Reads-stop : (n : ℕ) (bytes : List ℕ) (code : List Instr) (pc : ℕ) (rest : List ℕ) (fault : IsaFault) → Reads n bytes code pc rest → 8 ≤ length rest
+pub Reads-stop : (n : ℕ) (bytes : List ℕ) (code : List Instr) (pc : ℕ) (rest : List ℕ)
+    (fault : IsaFault) → Reads n bytes code pc rest → 8 ≤ length rest
     → decode (take 8 rest) ≡ Err fault → decoded n 0 bytes ≡ Err (BadOp pc)
 Reads-stop n bytes code pc rest fault h room d =
     let e : n - pc ≡ suc (n - (pc + 1)) = omega (arith, h.left) in
     h.said ∙ rw e (rw d refl)
-
--- no word is left
-pub Reads-all : (n : ℕ) (bytes : List ℕ) (code : List Instr) (pc : ℕ) (rest : List ℕ) → Reads n bytes code pc rest → length rest < 8
-    → decoded n 0 bytes ≡ Ok code
-Reads-all n bytes code pc rest h short =
-    let e : n - pc ≡ 0 = omega (arith, h.left) in
-    h.said ∙ rw e (ap Ok (append-nil code))
 
 -- a test that isn't passed
 pub not_below : (m n : ℕ) → n ≤ m → ltb m n ≡ false
@@ -75,9 +73,15 @@ not_false true h = refl
 not_false false h = cc
 
 -- an image whose head, sizes and length are right is its parts
-pub read_raw-parts : (bytes magic : List ℕ) (n d : ℕ) → 12 ≤ length bytes → false ≡ not (same_bytes (take 4 bytes) magic) → magic ≡ codes "VGR0"
-    → n ≡ word_at bytes 4 → d ≡ word_at bytes 8 → n ≤ 1024 → d ≤ 4096 → length bytes ≡ 12 + 8 * n + d → read_raw bytes ≡ parts_of n (drop 12 bytes)
+pub read_raw-parts : (bytes magic : List ℕ) (n d : ℕ) → 12 ≤ length bytes →
+    false ≡ not (same_bytes (take 4 bytes) magic) → magic ≡ codes "VGR0"
+    → n ≡ word_at bytes 4 → d ≡ word_at bytes 8 → n ≤ 1024 → d ≤ 4096 →
+    length bytes ≡ 12 + 8 * n + d → read_raw bytes ≡ parts_of n (drop 12 bytes)
 read_raw-parts bytes magic n d head same magic_is n_is d_is h g len =
     let sized : length bytes ≡ 12 + 8 * word_at bytes 4 + word_at bytes 8 = omega (arith, len, n_is, d_is) in
-    let small : is_too_large (word_at bytes 4) (word_at bytes 8) ≡ false = few (word_at bytes 4) (word_at bytes 8) (omega (arith, h, n_is)) (omega (arith, g, d_is)) in
-    rw (not_below (length bytes) 12 head, read_raw) (rw (rw magic_is at (not_false (same_bytes (take 4 bytes) magic) same)) (rw small (rw (eq-eqb (length bytes) (12 + 8 * word_at bytes 4 + word_at bytes 8) sized) (ap (λ (m : ℕ). parts_of m (drop 12 bytes)) (sym n_is)))))
+    let small : is_too_large (word_at bytes 4) (word_at bytes 8) ≡ false =
+    few (word_at bytes 4) (word_at bytes 8) (omega (arith, h, n_is)) (omega (arith, g, d_is)) in
+    rw (not_below (length bytes) 12 head, read_raw)
+    (rw (rw magic_is at (not_false (same_bytes (take 4 bytes) magic) same))
+    (rw small (rw (eq-eqb (length bytes) (12 + 8 * word_at bytes 4 + word_at bytes 8) sized)
+    (ap (λ (m : ℕ). parts_of m (drop 12 bytes)) (sym n_is)))))

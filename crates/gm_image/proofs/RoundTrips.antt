@@ -1,5 +1,8 @@
 -- Raw images and their bytes, both ways.
-use Rattle.std.proofs.Common.{◌≡◌, ℕ, zero, suc, ◌+◌, ◌*◌, ◌^◌, ◌<◌, ◌≤◌, Bool, true, false, ◌&&◌, List, [], ◌∷◌, ◌++◌, length, take, drop, get_or, codes, Result, Ok, Err, refl, sym, ap, ◌∙◌, arith, length-append, length-drop, length-take, get_or-drop, eqb, ltb, lit<}
+use Rattle.std.proofs.Common.{◌≡◌, ℕ, zero, suc, ◌+◌, ◌*◌, ◌^◌, ◌<◌, ◌≤◌, Bool, true, false, ◌&&◌}
+use Rattle.std.proofs.Common.{List, [], ◌∷◌, ◌++◌, length, take, drop, get_or, codes, Result, Ok}
+use Rattle.std.proofs.Common.{Err, refl, sym, ap, ◌∙◌, arith, length-append, length-drop}
+use Rattle.std.proofs.Common.{length-take, get_or-drop, eqb, ltb, lit<}
 use Rattle.std.proofs.Math.Seq.{take-append_seam, drop-append_seam}
 use Rattle.std.proofs.lemmas.List.{take-append-drop}
 use Rattle.std.specs.List.{list_all}
@@ -7,12 +10,14 @@ use Rattle.std.proofs.lemmas.Bool.{eqb-true}
 use Rattle.std.proofs.lemmas.Bool.Decides.{nat_tests}
 use Rattle.std.proofs.lemmas.Slice.Eq.{bytes_eq-Decides}
 use Rattle.std.proofs.lemmas.Nat.{from_le_bytes-to_le_bytes_4, le_bytes_4}
-use Rattle.kernel_model.specs.declared.Instr.{Instr}
-use Rattle.kernel_model.specs.declared.IsaFault.{IsaFault}
-use Rattle.kernel_model.specs.Bytes.{word_bytes, word_at}
-use Rattle.kernel_model.specs.World.{Image, plain_image, same_bytes}
-use Rattle.kernel_model.specs.Instructions.{encode, decode, fits}
-use Rattle.kernel_model.specs.Images.{IsRawImage, LoadFault, Length, Magic, TooLarge, with_first, decoded, image_with, parts_of, is_too_large, code_bytes, raw_image, read_raw}
+use Rattle.graft_code.specs.declared.Instr.{Instr}
+use Rattle.graft_code.specs.declared.IsaFault.{IsaFault}
+use Rattle.graft_code.specs.Bytes.{word_bytes, word_at}
+use Rattle.graft_code.specs.World.{Image, plain_image, same_bytes}
+use Rattle.graft_code.specs.Instructions.{encode, decode, fits}
+use Rattle.graft_code.specs.Images.{IsRawImage, LoadFault, Length, Magic, TooLarge, with_first}
+use Rattle.graft_code.specs.Images.{decoded, image_with, parts_of, is_too_large, code_bytes}
+use Rattle.graft_code.specs.Images.{raw_image, read_raw}
 use Rattle.gm_isa.specs.Laws.{DecodeUndoesEncode, EncodeUndoesDecode}
 use Rattle.gm_image.proofs.Reading.{read_raw-parts}
 
@@ -56,12 +61,14 @@ parts_of-code_bytes law code body h =
     rw taken (rw dropped (rw (decoded-code_bytes law code 0 h) refl))
 
 -- the bytes of an image read back as the image
-pub read-write : DecodeUndoesEncode → (i : Image) → IsRawImage i → read_raw (raw_image i.code i.body) ≡ Ok (plain_image i.code i.body)
+pub read-write : DecodeUndoesEncode → (i : Image) → IsRawImage i →
+    read_raw (raw_image i.code i.body) ≡ Ok (plain_image i.code i.body)
 read-write law i h =
     let size : length (code_bytes i.code ++ i.body) ≡ 8 * length i.code + length i.body =
     omega (arith, length-append (code_bytes i.code) i.body, length-code_bytes i.code) in
     read_raw-parts (raw_image i.code i.body) (codes "VGR0") (length i.code) (length i.body) (omega arith) refl refl
-    (word_is (length i.code) (omega (arith, h.code_len))) (word_is (length i.body) (omega (arith, h.body_len))) h.code_len h.body_len (omega (arith, size))
+    (word_is (length i.code) (omega (arith, h.code_len))) (word_is (length i.body)
+    (omega (arith, h.body_len))) h.code_len h.body_len (omega (arith, size))
     ∙ parts_of-code_bytes law i.code i.body h.code_fits
 
 -- ---- read, then written
@@ -69,7 +76,8 @@ read-write law i h =
 -- the bytes of the word of four bytes are these
 word_bytes-word_at : (a b c d : ℕ) → a < 256 → b < 256 → c < 256 → d < 256
     → word_bytes (word_at (a ∷ b ∷ c ∷ d ∷ []) 0) ≡ a ∷ b ∷ c ∷ d ∷ []
-word_bytes-word_at a b c d ha hb hc hd = le_bytes_4 (a ∷ b ∷ c ∷ d ∷ []) (word_at (a ∷ b ∷ c ∷ d ∷ []) 0) refl small (omega arith)
+word_bytes-word_at a b c d ha hb hc hd =
+    le_bytes_4 (a ∷ b ∷ c ∷ d ∷ []) (word_at (a ∷ b ∷ c ∷ d ∷ []) 0) refl small (omega arith)
   where
     small : (i : ℕ) → get_or (a ∷ b ∷ c ∷ d ∷ []) i 0 < 256
     small zero = ha
@@ -94,8 +102,10 @@ head_and_rest (x0 ∷ x1 ∷ x2 ∷ x3 ∷ x4 ∷ x5 ∷ x6 ∷ x7 ∷ x8 ∷ []
 head_and_rest (x0 ∷ x1 ∷ x2 ∷ x3 ∷ x4 ∷ x5 ∷ x6 ∷ x7 ∷ x8 ∷ x9 ∷ []) h g = absurd (omega (arith, h))
 head_and_rest (x0 ∷ x1 ∷ x2 ∷ x3 ∷ x4 ∷ x5 ∷ x6 ∷ x7 ∷ x8 ∷ x9 ∷ x10 ∷ []) h g = absurd (omega (arith, h))
 head_and_rest (x0 ∷ x1 ∷ x2 ∷ x3 ∷ x4 ∷ x5 ∷ x6 ∷ x7 ∷ x8 ∷ x9 ∷ x10 ∷ x11 ∷ rest) h g =
-    let n : word_bytes (word_at (x4 ∷ x5 ∷ x6 ∷ x7 ∷ []) 0) ≡ x4 ∷ x5 ∷ x6 ∷ x7 ∷ [] = word_bytes-word_at x4 x5 x6 x7 (g 4) (g 5) (g 6) (g 7) in
-    let d : word_bytes (word_at (x8 ∷ x9 ∷ x10 ∷ x11 ∷ []) 0) ≡ x8 ∷ x9 ∷ x10 ∷ x11 ∷ [] = word_bytes-word_at x8 x9 x10 x11 (g 8) (g 9) (g 10) (g 11) in
+    let n : word_bytes (word_at (x4 ∷ x5 ∷ x6 ∷ x7 ∷ []) 0) ≡ x4 ∷ x5 ∷ x6 ∷ x7 ∷ [] =
+    word_bytes-word_at x4 x5 x6 x7 (g 4) (g 5) (g 6) (g 7) in
+    let d : word_bytes (word_at (x8 ∷ x9 ∷ x10 ∷ x11 ∷ []) 0) ≡ x8 ∷ x9 ∷ x10 ∷ x11 ∷ [] =
+    word_bytes-word_at x8 x9 x10 x11 (g 8) (g 9) (g 10) (g 11) in
     ap (λ (xs : List ℕ). (x0 ∷ x1 ∷ x2 ∷ x3 ∷ xs) ++ word_bytes (word_at (x8 ∷ x9 ∷ x10 ∷ x11 ∷ []) 0) ++ rest) n
     ∙ ap (λ (xs : List ℕ). x0 ∷ x1 ∷ x2 ∷ x3 ∷ x4 ∷ x5 ∷ x6 ∷ x7 ∷ xs ++ rest) d
 
@@ -121,17 +131,22 @@ record Wrote (n : ℕ) (bytes : List ℕ) (code : List Instr) : Type 0 where
   count : length code ≡ n
 
 -- one more word
-wrote_first : EncodeUndoesDecode → (n pc : ℕ) (bytes : List ℕ) (code : List Instr) → 8 ≤ length bytes → ((k : ℕ) → get_or bytes k 0 < 256)
+wrote_first : EncodeUndoesDecode → (n pc : ℕ) (bytes : List ℕ) (code : List Instr) →
+    8 ≤ length bytes → ((k : ℕ) → get_or bytes k 0 < 256)
     → (first : Result Instr IsaFault) (rest : Result (List Instr) LoadFault) → decode (take 8 bytes) ≡ first
-    → ((is : List Instr) → rest ≡ Ok is → Wrote n (drop 8 bytes) is) → with_first first pc rest ≡ Ok code → Wrote (suc n) bytes code
+    → ((is : List Instr) → rest ≡ Ok is → Wrote n (drop 8 bytes) is) →
+    with_first first pc rest ≡ Ok code → Wrote (suc n) bytes code
 wrote_first law n pc bytes code room g (Err fault) rest d later h = cc
 wrote_first law n pc bytes code room g (Ok i) (Err fault) d later h = cc
 wrote_first law n pc bytes code room g (Ok i) (Ok is) d later h =
     let same : i ∷ is ≡ code = cc in
-    let word : encode i ≡ take 8 bytes = law (take 8 bytes) i (omega (arith, length-take 8 bytes, room)) (small_take 8 bytes g) d in
+    let word : encode i ≡ take 8 bytes =
+    law (take 8 bytes) i (omega (arith, length-take 8 bytes, room)) (small_take 8 bytes g) d in
     let behind = later is refl in
     record {
-      bytes_are = ap code_bytes (sym same) ∙ ap (λ (xs : List ℕ). xs ++ code_bytes is) word ∙ ap (λ (xs : List ℕ). take 8 bytes ++ xs) behind.bytes_are
+      bytes_are =
+          ap code_bytes (sym same) ∙ ap (λ (xs : List ℕ). xs ++ code_bytes is) word
+          ∙ ap (λ (xs : List ℕ). take 8 bytes ++ xs) behind.bytes_are
           ∙ take-append-drop 8 bytes;
       count = ap length (sym same) ∙ ap suc behind.count;
     }
@@ -143,7 +158,8 @@ wrote law zero pc bytes code e g d =
     let same : [] ≡ code = cc in
     record { bytes_are = ap code_bytes (sym same) ∙ is_nil bytes (omega (arith, e)); count = ap length (sym same) }
 wrote law (suc n) pc bytes code e g d =
-    wrote_first law n pc bytes code (omega (arith, e)) g (decode (take 8 bytes)) (decoded n (suc pc) (drop 8 bytes)) refl
+    wrote_first law n pc bytes code (omega (arith, e)) g (decode (take 8 bytes))
+    (decoded n (suc pc) (drop 8 bytes)) refl
     (λ is h. wrote law n (suc pc) (drop 8 bytes) is (omega (arith, e, length-drop 8 bytes)) (small_drop 8 bytes g) h) d
 
 -- the tests that bytes of an image passed
@@ -184,14 +200,18 @@ body_of (Err fault) = []
 body_of (Ok i) = i.body
 
 -- the code and the data of an image that is read
-with_parts : EncodeUndoesDecode → (n d : ℕ) (rest : List ℕ) (i : Image) (code : Result (List Instr) LoadFault) → length rest ≡ 8 * n + d
-    → ((k : ℕ) → get_or rest k 0 < 256) → decoded n 0 (take (8 * n) rest) ≡ code → image_with false (drop (8 * n) rest) code ≡ Ok i
+with_parts : EncodeUndoesDecode →
+    (n d : ℕ) (rest : List ℕ) (i : Image) (code : Result (List Instr) LoadFault) →
+    length rest ≡ 8 * n + d
+    → ((k : ℕ) → get_or rest k 0 < 256) → decoded n 0 (take (8 * n) rest) ≡ code →
+    image_with false (drop (8 * n) rest) code ≡ Ok i
     → (code_bytes i.code ++ i.body ≡ rest) × (length i.code ≡ n) × (length i.body ≡ d)
 with_parts law n d rest i (Err fault) e g c h = cc
 with_parts law n d rest i (Ok code) e g c h =
     let code_is : code ≡ i.code = ap code_of h in
     let body_is : drop (8 * n) rest ≡ i.body = ap body_of h in
-    let w = wrote law n 0 (take (8 * n) rest) code (omega (arith, length-take (8 * n) rest, e)) (small_take (8 * n) rest g) c in (
+    let w = wrote law n 0 (take (8 * n) rest) code
+    (omega (arith, length-take (8 * n) rest, e)) (small_take (8 * n) rest g) c in (
       ap (λ (xs : List Instr). code_bytes xs ++ i.body) (sym code_is) ∙ ap (λ (xs : List ℕ). xs ++ i.body) w.bytes_are
           ∙ ap (λ (xs : List ℕ). take (8 * n) rest ++ xs) (sym body_is) ∙ take-append-drop (8 * n) rest,
       ap length (sym code_is) ∙ w.count,
@@ -199,11 +219,14 @@ with_parts law n d rest i (Ok code) e g c h =
     )
 
 -- the bytes of the image that bytes read as are these
-pub write-read : EncodeUndoesDecode → (bytes : List ℕ) (i : Image) → ((k : ℕ) → get_or bytes k 0 < 256) → read_raw bytes ≡ Ok i
+pub write-read : EncodeUndoesDecode → (bytes : List ℕ) (i : Image) →
+    ((k : ℕ) → get_or bytes k 0 < 256) → read_raw bytes ≡ Ok i
     → raw_image i.code i.body ≡ bytes
 write-read law bytes i g h =
-    let p = passed (ltb (length bytes) 12) (same_bytes (take 4 bytes) (codes "VGR0")) (is_too_large (word_at bytes 4) (word_at bytes 8))
-    (eqb (length bytes) (12 + 8 * word_at bytes 4 + word_at bytes 8)) (parts_of (word_at bytes 4) (drop 12 bytes)) i h in
+    let p = passed (ltb (length bytes) 12) (same_bytes (take 4 bytes) (codes "VGR0"))
+    (is_too_large (word_at bytes 4) (word_at bytes 8))
+    (eqb (length bytes) (12 + 8 * word_at bytes 4 + word_at bytes 8))
+    (parts_of (word_at bytes 4) (drop 12 bytes)) i h in
     let room : 12 ≤ length bytes = grind (arith, nat_tests, p.not_short) in
     let sized : length bytes ≡ 12 + 8 * word_at bytes 4 + word_at bytes 8 = eqb-true _ _ p.whole in
     let magic : take 4 bytes ≡ codes "VGR0" = (bytes_eq-Decides (take 4 bytes) (codes "VGR0")).0 p.magic in
@@ -212,5 +235,6 @@ write-read law bytes i g h =
     (omega (arith, length-drop 12 bytes, sized)) (small_drop 12 bytes g) refl p.said in
     rw (parts.1, parts.2)
     (ap (λ (xs : List ℕ). codes "VGR0" ++ word_bytes (word_at bytes 4) ++ word_bytes (word_at bytes 8) ++ xs) parts.0
-    ∙ ap (λ (xs : List ℕ). xs ++ word_bytes (word_at bytes 4) ++ word_bytes (word_at bytes 8) ++ drop 12 bytes) (sym magic)
+    ∙ ap (λ (xs : List ℕ). xs ++ word_bytes (word_at bytes 4) ++ word_bytes (word_at bytes 8)
+    ++ drop 12 bytes) (sym magic)
     ∙ head_and_rest bytes room g)

@@ -1,7 +1,9 @@
 -- Reading words of eight bytes, and what refuses a sealed image.
-use Rattle.std.proofs.Common.{◌≡◌, ℕ, zero, suc, ◌+◌, ◌-◌, ◌*◌, ◌<◌, ◌≤◌, List, [], ◌∷◌, ◌++◌, length, take, drop, Some, refl, sym, ap, ◌∙◌, append_assoc, arith, length-append, length-drop}
+use Rattle.std.proofs.Common.{◌≡◌, ℕ, zero, suc, ◌+◌, ◌-◌, ◌*◌, ◌<◌, ◌≤◌, List, [], ◌∷◌, ◌++◌}
+use Rattle.std.proofs.Common.{length, take, drop, Some, refl, sym, ap, ◌∙◌, append_assoc, arith}
+use Rattle.std.proofs.Common.{length-append, length-drop}
 use Rattle.std.proofs.lemmas.List.{append-nil, drop-take}
-use Rattle.kernel_model.specs.Images.{head_fault}
+use Rattle.graft_code.specs.Images.{head_fault}
 use Rattle.gm_image.specs.declared.ImageFault.{ImageFault}
 use Rattle.gm_image.specs.Faults.{Refuses, refusal_of}
 use Rattle.gm_image.specs.Sealed.{words_of, read_sealed}
@@ -33,21 +35,17 @@ one_more : (words : List (List ℕ)) (k m : ℕ) (rest : List ℕ) → k ≡ suc
 one_more words k m rest e = rw e (append_assoc words (take 8 rest ∷ []) (words_of m (drop 8 rest)))
 
 -- one more word is read
-pub Splits-more : (n : ℕ) (bytes : List ℕ) (words : List (List ℕ)) (rest : List ℕ) → Splits n bytes words rest → 8 ≤ length rest
+pub Splits-more : (n : ℕ) (bytes : List ℕ) (words : List (List ℕ)) (rest : List ℕ) →
+    Splits n bytes words rest → 8 ≤ length rest
     → Splits n bytes (words ++ take 8 rest ∷ []) (drop 8 rest)
 Splits-more n bytes words rest h room =
     let count : length (words ++ take 8 rest ∷ []) ≡ length words + 1 = length-append words (take 8 rest ∷ []) in
     record {
-      said = rw count (one_more words (n - length words) (n - (length words + 1)) rest (omega (arith, h.left)) ∙ h.said);
+      said =
+          rw count (one_more words (n - length words) (n - (length words + 1)) rest
+          (omega (arith, h.left)) ∙ h.said);
       left = omega (arith, h.left, length-drop 8 rest, count);
     }
-
--- no word is left
-pub Splits-all : (n : ℕ) (bytes : List ℕ) (words : List (List ℕ)) (rest : List ℕ) → Splits n bytes words rest → length rest < 8
-    → (words ≡ words_of n bytes) × (length words ≡ n)
-Splits-all n bytes words rest h short =
-    let none : n - length words ≡ 0 = omega (arith, h.left) in
-    (sym (append-nil words) ∙ rw none at h.said, omega (arith, h.left))
 
 -- a fault that is the refusal of the head is that of the bytes
 pub refused : (fault : ImageFault) (bytes : List ℕ) → refusal_of (Some fault) ≡ head_fault bytes

@@ -1,6 +1,6 @@
 -- What the faults of images stand for.
 use Rattle.std.specs.Prelude.{◌≡◌, Option, None, Some, Result, Err}
-use Rattle.kernel_model.specs.Images.{LoadFault}
+use Rattle.graft_code.specs.Images.{LoadFault}
 use Rattle.gm_image.specs.declared.ImageFault.{ImageFault}
 use Rattle.gm_image.specs.declared.ImageFault.TheVariants.{Length, Magic, Version, TooLarge, BadOp, NoMemory}
 

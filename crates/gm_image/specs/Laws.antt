@@ -1,7 +1,7 @@
 -- The laws of raw images and their bytes.
 use Rattle.std.specs.Prelude.{◌≡◌, ℕ, ◌<◌, List, slice_index, Ok}
-use Rattle.kernel_model.specs.World.{Image, plain_image}
-use Rattle.kernel_model.specs.Images.{IsRawImage, raw_image, read_raw}
+use Rattle.graft_code.specs.World.{Image, plain_image}
+use Rattle.graft_code.specs.Images.{IsRawImage, raw_image, read_raw}
 
 -- the bytes of an image read back as the image of its code and data
 abbrev pub ReadUndoesWrite : Type 0

@@ -1,8 +1,8 @@
 -- The parts of a sealed image, and what is said of bytes before flags, key and seal are looked at.
 use Rattle.std.specs.Prelude.{◌≡◌, ◌≤◌, ℕ, zero, suc, ◌+◌, ◌-◌, ◌*◌, List, [], ◌∷◌, length, take}
 use Rattle.std.specs.Prelude.{drop, Option, None, Some, Result, Ok, Err}
-use Rattle.kernel_model.specs.Bytes.{word_at}
-use Rattle.kernel_model.specs.Images.{LoadFault, head_of, flags_of, number_of, head_fault}
+use Rattle.graft_code.specs.Bytes.{word_at}
+use Rattle.graft_code.specs.Images.{LoadFault, head_of, flags_of, number_of, head_fault}
 
 -- What a sealed image says: its version, its flags and the number of its key, eight bytes for each
 -- instruction, the data bytes, and the seal. Version 1 has no flags, and its key is number 0.

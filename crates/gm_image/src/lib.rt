@@ -3,22 +3,25 @@
 
 ghost use Rattle.std.specs.Prelude.{◌≡◌, ◌≤◌, ◌+◌, ◌*◌, ◌++◌, [], ◌∷◌, length, true, IfOk, IfErr, OnOk};
 ghost use Rattle.std.specs.List.{list_all};
-ghost use Rattle.kernel_model.specs.Instructions.{fits};
-ghost use Rattle.kernel_model.specs.Bytes as model;
-ghost use Rattle.kernel_model.specs.World.{plain_image};
-ghost use Rattle.kernel_model.specs.Images as spec;
+ghost use Rattle.graft_code.specs.Instructions.{fits};
+ghost use Rattle.graft_code.specs.Bytes as model;
+ghost use Rattle.graft_code.specs.World.{plain_image};
+ghost use Rattle.graft_code.specs.Images as spec;
 ghost use Rattle.gm_image.specs.Faults.{Refuses};
 
 use gm_isa::{decode, encode};
 use std::alloc::{AllocError, Global};
 use std::marker::Model;
+use text_words::append;
 use thiserror::Error;
 
 pub mod laws;
 mod sealed;
 
-pub use gm_isa::{Instr, Op};
-pub use kernel_model::NoMemory;
+pub use gm_isa::{
+    Instr, Op, access_mask, ends_well, form_of, is_jump, name_of, names_register, op_named,
+};
+pub use graft_code::NoMemory;
 pub use sealed::{SealedImage, read_sealed};
 
 /// The most instructions of an image.
@@ -69,8 +72,8 @@ pub struct RawImage {
 }
 
 impl Model for RawImage {
-    ghost use Rattle.kernel_model.specs.World.{Image, plain_image};
-    ghost use Rattle.kernel_model.specs.Images.{IsRawImage};
+    ghost use Rattle.graft_code.specs.World.{Image, plain_image};
+    ghost use Rattle.graft_code.specs.Images.{IsRawImage};
 
     ghost Value = { Image };
 
@@ -186,12 +189,6 @@ pub fn read_raw(alloc: Global, bytes: &[u8]) -> Result<RawImage, ImageFault>
     }
     let (_, parts) = bytes.split_at(RAW_HEAD);
     read_parts(alloc, n, parts)
-}
-
-fn append(out: &mut Vec<u8>, bytes: &[u8]) -> Result<(), NoMemory>
-    ensures { OnOk result (out.new.items ≡ out.old.items ++ bytes.now) }
-{
-    out.extend_from_slice(bytes).map_err(|_| NoMemory)
 }
 
 /// Appends the bytes of instructions.

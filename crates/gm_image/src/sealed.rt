@@ -2,8 +2,8 @@
 
 ghost use Rattle.std.specs.Prelude.{◌≡◌, ◌≤◌, ◌+◌, ◌-◌, ◌*◌, ◌++◌, ◌==◌, ◌||◌, [], ◌∷◌, cond};
 ghost use Rattle.std.specs.Prelude.{length, take, drop, Ok, IfOk, IfErr, IfNone, OnOk};
-ghost use Rattle.kernel_model.specs.Bytes as model;
-ghost use Rattle.kernel_model.specs.Images as images;
+ghost use Rattle.graft_code.specs.Bytes as model;
+ghost use Rattle.graft_code.specs.Images as images;
 ghost use Rattle.gm_image.specs.Faults.{Refuses, refusal_of};
 ghost use Rattle.gm_image.specs.Sealed as spec;
 

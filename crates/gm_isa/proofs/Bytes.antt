@@ -1,15 +1,21 @@
 -- Instructions and their bytes, both ways.
-use Rattle.std.proofs.Common.{◌≡◌, ℕ, suc, ◌^◌, ◌<◌, Bool, true, false, ◌&&◌, cond, eqb, List, [], ◌∷◌, length, get_or, Option, None, Some, Result, Ok, Err, refl, sym, ap, ◌∙◌, arith}
+use Rattle.std.proofs.Common.{◌≡◌, ℕ, suc, ◌^◌, ◌<◌, Bool, true, false, ◌&&◌, cond, eqb, List, []}
+use Rattle.std.proofs.Common.{◌∷◌, length, get_or, Option, None, Some, Result, Ok, Err, refl, sym}
+use Rattle.std.proofs.Common.{ap, ◌∙◌, arith}
 use Rattle.std.specs.Prelude.{find}
 use Rattle.std.proofs.lemmas.Bool.{eqb-true, ltb-true}
 use Rattle.std.proofs.lemmas.Nat.{from_le_bytes-to_le_bytes_4, le_bytes_4}
-use Rattle.kernel_model.specs.declared.Instr.{Instr}
-use Rattle.kernel_model.specs.declared.IsaFault.{IsaFault}
-use Rattle.kernel_model.specs.declared.IsaFault.TheVariants.{BadField}
-use Rattle.kernel_model.specs.declared.Op.{Op}
-use Rattle.kernel_model.specs.declared.Op.TheVariants.{Li, Mov, Add, Sub, Mul, And, Or, Xor, Shl, Shr, Divu, Remu, Sltu, Addi, Andi, Ldw, Stw, Ldb, Stb, Jmp, Jz, Jnz, Call, Callr, Trap, Ret}
-use Rattle.kernel_model.specs.Bytes.{word_bytes, word_at}
-use Rattle.kernel_model.specs.Instructions.{row_of, operations, op_numbered, is_register_field, is_imm_field, fits, instr_of, decode_by, encode, decode}
+use Rattle.graft_code.specs.declared.Instr.{Instr}
+use Rattle.graft_code.specs.declared.IsaFault.{IsaFault}
+use Rattle.graft_code.specs.declared.IsaFault.TheVariants.{BadField}
+use Rattle.graft_code.specs.declared.Op.{Op}
+use Rattle.graft_code.specs.declared.Op.TheVariants.{Li, Mov, Add, Sub, Mul, And, Or, Xor, Shl}
+use Rattle.graft_code.specs.declared.Op.TheVariants.{Shr, Divu, Remu, Sltu, Addi, Andi, Ldw, Stw}
+use Rattle.graft_code.specs.declared.Op.TheVariants.{Ldb, Stb, Jmp, Jz, Jnz, Call, Callr, Trap}
+use Rattle.graft_code.specs.declared.Op.TheVariants.{Ret}
+use Rattle.graft_code.specs.Bytes.{word_bytes, word_at}
+use Rattle.graft_code.specs.Instructions.{row_of, operations, op_numbered, is_register_field}
+use Rattle.graft_code.specs.Instructions.{is_imm_field, fits, instr_of, decode_by, encode, decode}
 
 -- the number of an operation stands for it
 pub op_numbered-number : (op : Op) → op_numbered (row_of op).number ≡ Some op
@@ -45,7 +51,8 @@ find_passes : {A : Type 0} (p : A → Bool) (xs : List A) (y : A) → find p xs 
 find_passes p [] y h = cc
 find_passes p (x ∷ xs) y h = at_first (p x) refl h (find_passes p xs y)
   where
-    at_first : (b : Bool) → p x ≡ b → cond b (Some x) (find p xs) ≡ Some y → (find p xs ≡ Some y → p y ≡ true) → p y ≡ true
+    at_first : (b : Bool) → p x ≡ b → cond b (Some x) (find p xs) ≡ Some y →
+        (find p xs ≡ Some y → p y ≡ true) → p y ≡ true
     at_first true e g later = let same : x ≡ y = cc in sym (ap p same) ∙ e
     at_first false e g later = later g
 
@@ -67,7 +74,8 @@ word_from_fits : (i : Instr) → fits i ≡ true → i.imm < 2 ^ 32
 word_from_fits i h =
     let f = (row_of i.op).form in
     word_from_is_imm_field f.imm i.imm
-    (second (is_register_field f.a i.a && is_register_field f.b i.b && is_register_field f.c i.c) (is_imm_field f.imm i.imm) h)
+    (second (is_register_field f.a i.a && is_register_field f.b i.b && is_register_field f.c i.c)
+    (is_imm_field f.imm i.imm) h)
   where
     second : (a b : Bool) → (a && b) ≡ true → b ≡ true
     second true b g = g

@@ -1,7 +1,7 @@
 -- The laws of instructions and their bytes.
 use Rattle.std.specs.Prelude.{◌≡◌, ℕ, ◌<◌, List, length, slice_index, Ok, IsTrue}
-use Rattle.kernel_model.specs.declared.Instr.{Instr}
-use Rattle.kernel_model.specs.Instructions.{fits, encode, decode}
+use Rattle.graft_code.specs.declared.Instr.{Instr}
+use Rattle.graft_code.specs.Instructions.{fits, encode, decode}
 
 -- the bytes of an instruction decode to it
 abbrev pub DecodeUndoesEncode : Type 0

@@ -2,9 +2,9 @@
 //! asks.
 
 ghost use Rattle.std.specs.Prelude.{◌≡◌, ℕ, ◌≤◌, length, option_map};
-ghost use Rattle.kernel_model.specs.Instructions as spec;
-ghost use Rattle.kernel_model.specs.Boxed as boxed;
-ghost use Rattle.kernel_model.specs.Machine.{mask};
+ghost use Rattle.graft_code.specs.Instructions as spec;
+ghost use Rattle.graft_code.specs.Boxed as boxed;
+ghost use Rattle.graft_code.specs.Machine.{mask};
 
 use crate::{Instr, Op, form_of};
 

@@ -3,14 +3,14 @@
 #![tactic(auto)]
 
 ghost use Rattle.std.specs.Prelude.{◌≡◌, IsTrue, IfOk};
-ghost use Rattle.kernel_model.specs.Instructions as spec;
-ghost use Rattle.kernel_model.specs.Instructions.{row_of, is_register_field, is_imm_field};
+ghost use Rattle.graft_code.specs.Instructions as spec;
+ghost use Rattle.graft_code.specs.Instructions.{row_of, is_register_field, is_imm_field};
 
 mod classes;
 pub mod laws;
 
 pub use classes::{access_mask, ends_well, is_end, is_jump, names_register};
-pub use kernel_model::{Fields, Instr, IsaFault, Op};
+pub use graft_code::{Fields, Instr, IsaFault, Op};
 
 const THREE_REGISTERS: Fields = Fields {
     a: true,

@@ -1,5 +1,7 @@
 -- A charge leaves what each process has, has spent and has given to its grafts.
-use Rattle.std.proofs.Common.{◌≡◌, ◌≢◌, ℕ, zero, suc, ◌+◌, ◌-◌, ◌*◌, ◌<◌, ◌≤◌, ◌==◌, nat_le, Bool, true, false, cond, List, length, slice_index, refl, sym, subst, ◌∙◌, ap, arith}
+use Rattle.std.proofs.Common.{◌≡◌, ◌≢◌, ℕ, zero, suc, ◌+◌, ◌-◌, ◌*◌, ◌<◌, ◌≤◌, ◌==◌, nat_le, Bool}
+use Rattle.std.proofs.Common.{true, false, cond, List, length, slice_index, refl, sym, subst, ◌∙◌}
+use Rattle.std.proofs.Common.{ap, arith}
 use Rattle.std.proofs.lemmas.Bool.Decides.{nat_tests}
 use Rattle.kernel_model.specs.declared.Kind.{Kind}
 use Rattle.kernel_model.specs.Sound.{sum_below, ledger}
@@ -10,7 +12,8 @@ use Rattle.graft_accounts.proofs.Seen.{field_of, same_fields}
 use Rattle.graft_accounts.proofs.Totals.{kept_of, sum_same, point_funds}
 
 -- one of the summands is less by one
-sum_less : (n j : ℕ) (f g : ℕ → ℕ) → j < n → ((i : ℕ) → i ≢ j → f i ≡ g i) → f j + 1 ≡ g j → sum_below n f + 1 ≡ sum_below n g
+sum_less : (n j : ℕ) (f g : ℕ → ℕ) → j < n → ((i : ℕ) → i ≢ j → f i ≡ g i) → f j + 1 ≡ g j →
+    sum_below n f + 1 ≡ sum_below n g
 unfolding sum_below
 sum_less zero j f g h same one = absurd (omega arith)
 sum_less (suc n) j f g h same one =
@@ -67,7 +70,8 @@ row_same fs p pt r low apart =
     (λ x less. set_other fs i (16 * r + x) (slice_index fs i - 1) (λ e. apart (omega arith)))
 
 -- a graft pays one
-paid_at_ledger : (a : Sums) (p pt : ℕ) → pt < 16 → p < length a.spent → 16 * p + pt < length a.funds → 1 ≤ slice_index a.funds (16 * p + pt) →
+paid_at_ledger : (a : Sums) (p pt : ℕ) → pt < 16 → p < length a.spent →
+    16 * p + pt < length a.funds → 1 ≤ slice_index a.funds (16 * p + pt) →
     (r : ℕ) → ledger_in r (paid_at p (16 * p + pt) 1 a) ≡ ledger_in r a
 paid_at_ledger a p pt low h i enough =
     let P : ℕ → Type 0 = λ r. ledger_in r (paid_at p (16 * p + pt) 1 a) ≡ ledger_in r a in
@@ -79,7 +83,8 @@ paid_at_ledger a p pt low h i enough =
     let f = row_same a.funds p pt r low apart in omega arith)
 
 -- a move within the ledgers
-moved_ledgers : (t u : Table) (k : Kind) (s : Sums) → IsTable t → IsTable u → ((r : ℕ) → ledger_in r s ≡ ledger_in r (sums_of t k)) →
+moved_ledgers : (t u : Table) (k : Kind) (s : Sums) → IsTable t → IsTable u →
+    ((r : ℕ) → ledger_in r s ≡ ledger_in r (sums_of t k)) →
     u ≡ with_sums k s t → (j : Kind) (r : ℕ) → ledger (accounts_of u) j r ≡ ledger (accounts_of t) j r
 moved_ledgers t u k s h i e is j r =
     ledger_seen u j r i
@@ -87,8 +92,10 @@ moved_ledgers t u k s h i e is j r =
     ∙ ap (λ f. f j) (same_fields (ledger_in r) k s t (e r))
     ∙ sym (ledger_seen t j r h)
 
-pub account_charge_ledgers : (t u : Table) (k : Kind) (p : ℕ) (b : Bool) → IsTable t → IsTable u → p < 16 → b ≡ nat_le 1 (slice_index (sums_of t k).balances p) →
-    u ≡ cond b (with_sums k (paid p 1 (sums_of t k)) t) t → (j : Kind) (r : ℕ) → ledger (accounts_of u) j r ≡ ledger (accounts_of t) j r
+pub account_charge_ledgers : (t u : Table) (k : Kind) (p : ℕ) (b : Bool) → IsTable t → IsTable u →
+    p < 16 → b ≡ nat_le 1 (slice_index (sums_of t k).balances p) →
+    u ≡ cond b (with_sums k (paid p 1 (sums_of t k)) t) t → (j : Kind) (r : ℕ) →
+    ledger (accounts_of u) j r ≡ ledger (accounts_of t) j r
 account_charge_ledgers t u k p true h i low enough e =
     let long = (kept_of t k h).sums in
     let some : 1 ≤ slice_index (sums_of t k).balances p = grind (arith, nat_tests) in
@@ -98,12 +105,14 @@ account_charge_ledgers t u k p false h i low enough e = λ j r. ap (λ v. ledger
 
 pub graft_charge_ledgers : (t u : Table) (k : Kind) (p pt : ℕ) (b : Bool) → IsTable t → IsTable u → p < 16 → pt < 16 →
     b ≡ nat_le 1 (slice_index (sums_of t k).funds (16 * p + pt)) →
-    u ≡ cond b (with_sums k (paid_at p (16 * p + pt) 1 (sums_of t k)) t) t → (j : Kind) (r : ℕ) → ledger (accounts_of u) j r ≡ ledger (accounts_of t) j r
+    u ≡ cond b (with_sums k (paid_at p (16 * p + pt) 1 (sums_of t k)) t) t → (j : Kind) (r : ℕ) →
+    ledger (accounts_of u) j r ≡ ledger (accounts_of t) j r
 graft_charge_ledgers t u k p pt true h i low less enough e =
     let long = (kept_of t k h).sums in
     let some : 1 ≤ slice_index (sums_of t k).funds (16 * p + pt) = grind (arith, nat_tests) in
     let s = long.spent in let f = long.funds in
-    moved_ledgers t u k (paid_at p (16 * p + pt) 1 (sums_of t k)) h i (paid_at_ledger (sums_of t k) p pt less (omega arith) (omega arith) some) e
+    moved_ledgers t u k (paid_at p (16 * p + pt) 1 (sums_of t k)) h i
+    (paid_at_ledger (sums_of t k) p pt less (omega arith) (omega arith) some) e
 graft_charge_ledgers t u k p pt false h i low less enough e = λ j r. ap (λ v. ledger (accounts_of v) j r) e
 
 -- the same ledgers are the same in all

@@ -1,18 +1,28 @@
 -- What each move of amounts is seen as.
-use Rattle.std.proofs.Common.{◌≡◌, ◌≢◌, ℕ, ◌+◌, ◌-◌, ◌*◌, ◌<◌, ◌≤◌, ◌==◌, nat_lt, Bool, true, false, cond, List, length, slice_index, slice_index_or, Option, Some, None, is_some, refl, sym, ◌∙◌, ap, arith}
+use Rattle.std.proofs.Common.{◌≡◌, ◌≢◌, ℕ, ◌+◌, ◌-◌, ◌*◌, ◌<◌, ◌≤◌, ◌==◌, nat_lt, Bool, true}
+use Rattle.std.proofs.Common.{false, cond, List, length, slice_index, slice_index_or, Option, Some}
+use Rattle.std.proofs.Common.{None, is_some, refl, sym, ◌∙◌, ap, arith}
 use Rattle.std.proofs.Math.Path.{fun_ext}
 use Rattle.std.proofs.lemmas.Bool.Decides.{nat_tests}
 use Rattle.std.proofs.lemmas.List.{get_or-set_same, get_or-set_other, length-set}
 use Rattle.kernel_model.specs.declared.Kind.{Kind}
 use Rattle.kernel_model.specs.declared.Kind.TheVariants.{Steps, Records, Locks}
 use Rattle.kernel_model.specs.Objects.{Accounts, GraftValue, AcctValue, at, at2, at_kind}
-use Rattle.kernel_model.specs.Charges.{spend, pay, taken_from, charge_account, charge_graft, charge_by, charge, returned, removed_by, removed}
-use Rattle.kernel_model.specs.Pieces.{less, more, funded, accounts_after, accounts_funded, with_graft, new_graft, empty_account, joint_account, account_closed}
+use Rattle.kernel_model.specs.Charges.{spend, pay, taken_from, charge_account, charge_graft}
+use Rattle.kernel_model.specs.Charges.{charge_by, charge, returned, removed_by, removed}
+use Rattle.kernel_model.specs.Pieces.{less, more, funded, accounts_after, accounts_funded}
+use Rattle.kernel_model.specs.Pieces.{with_graft, new_graft, empty_account, joint_account}
+use Rattle.kernel_model.specs.Pieces.{account_closed}
 use Rattle.graft_accounts.specs.declared.rows.Standing.{Standing}
 use Rattle.graft_accounts.specs.Sums.{Sums, less_at, more_at, given, funded_at, paid, paid_at, given_back, closed}
-use Rattle.graft_accounts.specs.Table.{Table, IsTable, sums_of, with_sums, standing_at, put_at, taken_out, closed_all, account_at, graft_at, accounts_of, total, after_give, after_fund, after_bill}
+use Rattle.graft_accounts.specs.Table.{Table, IsTable, sums_of, with_sums, standing_at, put_at}
+use Rattle.graft_accounts.specs.Table.{taken_out, closed_all, account_at, graft_at, accounts_of}
+use Rattle.graft_accounts.specs.Table.{total, after_give, after_fund, after_bill}
 use Rattle.graft_accounts.proofs.Places.{set_here, set_other, each_place, at_by}
-use Rattle.graft_accounts.proofs.Seen.{field_of, with_fields, same_fields, sums_with, grafts_with, with_twice, account_same, account_balance, account_spent, account_both, graft_by, graft_alike, accounts_by, graft_point, grafts_same, grafts_but}
+use Rattle.graft_accounts.proofs.Seen.{field_of, with_fields, same_fields, sums_with, grafts_with}
+use Rattle.graft_accounts.proofs.Seen.{with_twice, account_same, account_balance, account_spent}
+use Rattle.graft_accounts.proofs.Seen.{account_both, graft_by, graft_alike, accounts_by}
+use Rattle.graft_accounts.proofs.Seen.{graft_point, grafts_same, grafts_but}
 use Rattle.graft_accounts.proofs.Totals.{kept_of, totals_stay}
 
 -- ---- grafts that stay
@@ -20,35 +30,44 @@ use Rattle.graft_accounts.proofs.Totals.{kept_of, totals_stay}
 standing_with : (k : Kind) (s : Sums) (t : Table) (i : ℕ) → standing_at (with_sums k s t) i ≡ standing_at t i
 standing_with k s t i = ap (λ gs. slice_index_or gs i None) (grafts_with k s t)
 
-graft_untouched : (k : Kind) (s : Sums) (t : Table) (i : ℕ) → slice_index s.funds i ≡ slice_index (sums_of t k).funds i →
+graft_untouched : (k : Kind) (s : Sums) (t : Table) (i : ℕ) →
+    slice_index s.funds i ≡ slice_index (sums_of t k).funds i →
     graft_at (with_sums k s t) i (standing_at (with_sums k s t) i) ≡ graft_at t i (standing_at t i)
 graft_untouched k s t i e =
     ap (graft_at (with_sums k s t) i) (standing_with k s t i)
     ∙ graft_alike (with_sums k s t) t i (standing_at t i) (same_fields (λ a. slice_index a.funds i) k s t e)
 
-grafts_untouched : (k : Kind) (s : Sums) (t : Table) → s.funds ≡ (sums_of t k).funds → (accounts_of (with_sums k s t)).graft ≡ (accounts_of t).graft
-grafts_untouched k s t e = grafts_same (with_sums k s t) t (λ i. graft_untouched k s t i (ap (λ fs. slice_index fs i) e))
+grafts_untouched : (k : Kind) (s : Sums) (t : Table) → s.funds ≡ (sums_of t k).funds →
+    (accounts_of (with_sums k s t)).graft ≡ (accounts_of t).graft
+grafts_untouched k s t e =
+    grafts_same (with_sums k s t) t (λ i. graft_untouched k s t i (ap (λ fs. slice_index fs i) e))
 
 -- a graft that stands, with another amount of the kind
-graft_touched : (k : Kind) (s : Sums) (t : Table) (i n : ℕ) (g : Standing) → standing_at t i ≡ Some g → slice_index s.funds i ≡ n →
-    graft_at (with_sums k s t) i (standing_at (with_sums k s t) i) ≡ graft_by g (at_kind k n (field_of (λ a. slice_index a.funds i) t))
+graft_touched : (k : Kind) (s : Sums) (t : Table) (i n : ℕ) (g : Standing) →
+    standing_at t i ≡ Some g → slice_index s.funds i ≡ n →
+    graft_at (with_sums k s t) i (standing_at (with_sums k s t) i)
+    ≡ graft_by g (at_kind k n (field_of (λ a. slice_index a.funds i) t))
 graft_touched k s t i n g e h =
     ap (graft_at (with_sums k s t) i) (standing_with k s t i ∙ e)
-    ∙ ap (graft_by g) (with_fields (λ a. slice_index a.funds i) k s t ∙ ap (λ m. at_kind k m (field_of (λ a. slice_index a.funds i) t)) h)
+    ∙ ap (graft_by g) (with_fields (λ a. slice_index a.funds i) k s t
+    ∙ ap (λ m. at_kind k m (field_of (λ a. slice_index a.funds i) t)) h)
 
 -- ---- from one process to another
 
 less_account : (t : Table) (k : Kind) (p n : ℕ) → p < length (sums_of t k).balances →
-    account_at (with_sums k (record (sums_of t k) { balances = less_at p n (sums_of t k).balances }) t) ≡ at p (less k n (account_at t p)) (account_at t)
+    account_at (with_sums k (record (sums_of t k) { balances = less_at p n (sums_of t k).balances })
+    t) ≡ at p (less k n (account_at t p)) (account_at t)
 less_account t k p n h =
     let a = sums_of t k in
     let s : Sums = record a { balances = less_at p n a.balances } in
     at_by (account_at (with_sums k s t)) (account_at t) p (less k n (account_at t p))
-    (account_balance k s t p (slice_index a.balances p - n) (set_here a.balances p (slice_index a.balances p - n) h) refl)
+    (account_balance k s t p (slice_index a.balances p - n)
+    (set_here a.balances p (slice_index a.balances p - n) h) refl)
     (λ j apart. account_same k s t j (set_other a.balances p j (slice_index a.balances p - n) apart) refl)
 
 more_account : (t : Table) (k : Kind) (a : Sums) (q n : ℕ) → sums_of t k ≡ a → q < length a.balances →
-    account_at (with_sums k (record a { balances = more_at q n a.balances }) t) ≡ at q (more k n (account_at t q)) (account_at t)
+    account_at (with_sums k (record a { balances = more_at q n a.balances }) t)
+    ≡ at q (more k n (account_at t q)) (account_at t)
 more_account t k a q n e h =
     let s : Sums = record a { balances = more_at q n a.balances } in
     at_by (account_at (with_sums k s t)) (account_at t) q (more k n (account_at t q))
@@ -56,13 +75,15 @@ more_account t k a q n e h =
     (set_here a.balances q (slice_index a.balances q + n) h ∙ ap (λ (b : Sums). slice_index b.balances q + n) (sym e))
     (ap (λ (b : Sums). slice_index b.spent q) (sym e)))
     (λ j apart. account_same k s t j
-    (set_other a.balances q j (slice_index a.balances q + n) apart ∙ ap (λ (b : Sums). slice_index b.balances j) (sym e))
+    (set_other a.balances q j (slice_index a.balances q + n) apart
+    ∙ ap (λ (b : Sums). slice_index b.balances j) (sym e))
     (ap (λ (b : Sums). slice_index b.spent j) (sym e)))
 
 length_less : (i n : ℕ) (xs : List ℕ) → length (less_at i n xs) ≡ length xs
 length_less i n xs = length-set xs i (slice_index xs i - n)
 
-give_accounts : (t : Table) (k : Kind) (p q n : ℕ) → p < length (sums_of t k).balances → q < length (sums_of t k).balances →
+give_accounts : (t : Table) (k : Kind) (p q n : ℕ) → p < length (sums_of t k).balances →
+    q < length (sums_of t k).balances →
     account_at (with_sums k (given p q n (sums_of t k)) t) ≡ accounts_after (account_at t) p q k n
 give_accounts t k p q n h i =
     let a = sums_of t k in
@@ -75,14 +96,18 @@ give_accounts t k p q n h i =
 
 enough_given : (p q : ℕ) (k : Kind) (n : ℕ) (a : Accounts) → n ≤ (a.acct p).balance k →
     after_give p q k n a ≡ record a { acct = accounts_after a.acct p q k n }
-enough_given p q k n a h = let no : nat_lt ((a.acct p).balance k) n ≡ false = grind (arith, nat_tests) in rw (no, after_give) refl
+enough_given p q k n a h =
+    let no : nat_lt ((a.acct p).balance k) n ≡ false = grind (arith, nat_tests) in
+    rw (no, after_give) refl
 
-pub give_seen : (t u : Table) (k : Kind) (p q n : ℕ) → IsTable t → p < 16 → q < 16 → n ≤ slice_index (sums_of t k).balances p →
+pub give_seen : (t u : Table) (k : Kind) (p q n : ℕ) → IsTable t → p < 16 → q < 16 →
+    n ≤ slice_index (sums_of t k).balances p →
     u ≡ with_sums k (given p q n (sums_of t k)) t → accounts_of u ≡ after_give p q k n (accounts_of t)
 give_seen t u k p q n table h i enough e =
     let long = (kept_of t k table).sums.balances in
     ap accounts_of e
-    ∙ accounts_by (with_sums k (given p q n (sums_of t k)) t) (accounts_of t).graft (accounts_after (account_at t) p q k n)
+    ∙ accounts_by (with_sums k (given p q n (sums_of t k)) t) (accounts_of t).graft
+    (accounts_after (account_at t) p q k n)
     (grafts_untouched k (given p q n (sums_of t k)) t refl)
     (give_accounts t k p q n (omega arith) (omega arith))
     ∙ sym (enough_given p q k n (accounts_of t) enough)
@@ -91,9 +116,16 @@ give_seen t u k p q n table h i enough e =
 
 -- the graft that is seen at a place
 abbrev pub graft_seen : Table → ℕ → Standing → GraftValue
-graft_seen t i g = record { image = g.image; limit = g.limit; billed = g.billed; balance = field_of (λ a. slice_index a.funds i) t }
+graft_seen t i g =
+    record {
+      image = g.image;
+      limit = g.limit;
+      billed = g.billed;
+      balance = field_of (λ a. slice_index a.funds i) t;
+    }
 
-fund_grafts : (t : Table) (k : Kind) (p pt n : ℕ) (g : Standing) → IsTable t → p < 16 → pt < 16 → standing_at t (16 * p + pt) ≡ Some g →
+fund_grafts : (t : Table) (k : Kind) (p pt n : ℕ) (g : Standing) → IsTable t → p < 16 → pt < 16 →
+    standing_at t (16 * p + pt) ≡ Some g →
     (accounts_of (with_sums k (funded_at p (16 * p + pt) n (sums_of t k)) t)).graft
     ≡ at2 p pt (Some (funded k n (graft_seen t (16 * p + pt) g))) (accounts_of t).graft
 fund_grafts t k p pt n g table h low e =
@@ -112,7 +144,8 @@ fund_accounts t k p i n h =
     let a = sums_of t k in
     let s = funded_at p i n a in
     at_by (account_at (with_sums k s t)) (account_at t) p (less k n (account_at t p))
-    (account_balance k s t p (slice_index a.balances p - n) (set_here a.balances p (slice_index a.balances p - n) h) refl)
+    (account_balance k s t p (slice_index a.balances p - n)
+    (set_here a.balances p (slice_index a.balances p - n) h) refl)
     (λ j apart. account_same k s t j (set_other a.balances p j (slice_index a.balances p - n) apart) refl)
 
 -- the graft at a point where this one stands
@@ -122,16 +155,20 @@ graft_standing t p pt g low e = graft_point t p pt low ∙ ap (graft_at t (16 * 
 
 enough_funded : (p pt : ℕ) (k : Kind) (n : ℕ) (g : GraftValue) (a : Accounts) → n ≤ (a.acct p).balance k →
     after_fund p pt k n (Some g) a ≡ accounts_funded p pt k n g a
-enough_funded p pt k n g a h = let no : nat_lt ((a.acct p).balance k) n ≡ false = grind (arith, nat_tests) in rw (no, after_fund) refl
+enough_funded p pt k n g a h =
+    let no : nat_lt ((a.acct p).balance k) n ≡ false = grind (arith, nat_tests) in
+    rw (no, after_fund) refl
 
-pub fund_seen : (t u : Table) (k : Kind) (p pt n : ℕ) (g : Standing) → IsTable t → p < 16 → pt < 16 → standing_at t (16 * p + pt) ≡ Some g →
+pub fund_seen : (t u : Table) (k : Kind) (p pt n : ℕ) (g : Standing) → IsTable t → p < 16 →
+    pt < 16 → standing_at t (16 * p + pt) ≡ Some g →
     n ≤ slice_index (sums_of t k).balances p → u ≡ with_sums k (funded_at p (16 * p + pt) n (sums_of t k)) t →
     accounts_of u ≡ after_fund p pt k n ((accounts_of t).graft p pt) (accounts_of t)
 fund_seen t u k p pt n g table h low stands enough e =
     let long = (kept_of t k table).sums.balances in
     let i = 16 * p + pt in
     ap accounts_of e
-    ∙ accounts_by (with_sums k (funded_at p i n (sums_of t k)) t) (at2 p pt (Some (funded k n (graft_seen t i g))) (accounts_of t).graft)
+    ∙ accounts_by (with_sums k (funded_at p i n (sums_of t k)) t)
+    (at2 p pt (Some (funded k n (graft_seen t i g))) (accounts_of t).graft)
     (at p (less k n (account_at t p)) (account_at t))
     (fund_grafts t k p pt n g table h low stands)
     (fund_accounts t k p i n (omega arith))
@@ -170,7 +207,8 @@ spend_accounts t k p i h =
     (account_spent k s t p (slice_index a.spent p + 1) refl (set_here a.spent p (slice_index a.spent p + 1) h))
     (λ j apart. account_same k s t j refl (set_other a.spent p j (slice_index a.spent p + 1) apart))
 
-spend_grafts : (t : Table) (k : Kind) (p pt : ℕ) (g : Standing) → IsLong (sums_of t k) → p < 16 → pt < 16 → standing_at t (16 * p + pt) ≡ Some g →
+spend_grafts : (t : Table) (k : Kind) (p pt : ℕ) (g : Standing) → IsLong (sums_of t k) → p < 16 →
+    pt < 16 → standing_at t (16 * p + pt) ≡ Some g →
     (accounts_of (with_sums k (paid_at p (16 * p + pt) 1 (sums_of t k)) t)).graft
     ≡ at2 p pt (Some (taken_from k (graft_seen t (16 * p + pt) g))) (accounts_of t).graft
 spend_grafts t k p pt g long_sums h low e =
@@ -187,31 +225,38 @@ unbilled : (b : Bool) (x y : Accounts) → b ≡ false → (elim b as (λ _. Acc
 unbilled true x y e = cc
 unbilled false x y e = refl
 
-billed_pays : (k : Kind) (q pt : ℕ) (g : GraftValue) (w : Accounts) → g.billed ≡ true → charge_by k q pt (Some g) w ≡ charge_account k q w
+billed_pays : (k : Kind) (q pt : ℕ) (g : GraftValue) (w : Accounts) → g.billed ≡ true →
+    charge_by k q pt (Some g) w ≡ charge_account k q w
 billed_pays k q pt g w e = rw (e, charge_by) refl
 
-graft_pays : (k : Kind) (q pt : ℕ) (g : GraftValue) (w : Accounts) → g.billed ≡ false → charge_by k q pt (Some g) w ≡ charge_graft k q pt g w
+graft_pays : (k : Kind) (q pt : ℕ) (g : GraftValue) (w : Accounts) → g.billed ≡ false →
+    charge_by k q pt (Some g) w ≡ charge_graft k q pt g w
 graft_pays k q pt g w e = unbilled g.billed (charge_account k q w) (charge_graft k q pt g w) e
 
 -- what the account paid
-pub account_charged : (t : Table) (k : Kind) (p pt : ℕ) (g : Standing) → IsLong (sums_of t k) → p < 16 → pt < 16 → standing_at t (16 * p + pt) ≡ Some g →
+pub account_charged : (t : Table) (k : Kind) (p pt : ℕ) (g : Standing) → IsLong (sums_of t k) →
+    p < 16 → pt < 16 → standing_at t (16 * p + pt) ≡ Some g →
     g.billed ≡ true → accounts_of (with_sums k (paid p 1 (sums_of t k)) t) ≡ charge k p pt (accounts_of t)
 account_charged t k p pt g long_sums h low stands billed =
     let b = long_sums.balances in
     let s = long_sums.spent in
-    accounts_by (with_sums k (paid p 1 (sums_of t k)) t) (accounts_of t).graft (at p (pay k (account_at t p)) (account_at t))
+    accounts_by (with_sums k (paid p 1 (sums_of t k)) t) (accounts_of t).graft
+    (at p (pay k (account_at t p)) (account_at t))
     (grafts_untouched k (paid p 1 (sums_of t k)) t refl)
     (pay_accounts t k p (omega arith) (omega arith))
     ∙ sym (billed_pays k p pt (graft_seen t (16 * p + pt) g) (accounts_of t) billed)
     ∙ ap (λ o. charge_by k p pt o (accounts_of t)) (sym (graft_standing t p pt g low stands))
 
 -- what the graft paid
-pub graft_charged : (t : Table) (k : Kind) (p pt : ℕ) (g : Standing) → IsLong (sums_of t k) → p < 16 → pt < 16 → standing_at t (16 * p + pt) ≡ Some g →
-    g.billed ≡ false → accounts_of (with_sums k (paid_at p (16 * p + pt) 1 (sums_of t k)) t) ≡ charge k p pt (accounts_of t)
+pub graft_charged : (t : Table) (k : Kind) (p pt : ℕ) (g : Standing) → IsLong (sums_of t k) →
+    p < 16 → pt < 16 → standing_at t (16 * p + pt) ≡ Some g →
+    g.billed ≡ false → accounts_of (with_sums k (paid_at p (16 * p + pt) 1 (sums_of t k)) t)
+    ≡ charge k p pt (accounts_of t)
 graft_charged t k p pt g long_sums h low stands billed =
     let s = long_sums.spent in
     let i = 16 * p + pt in
-    accounts_by (with_sums k (paid_at p i 1 (sums_of t k)) t) (at2 p pt (Some (taken_from k (graft_seen t i g))) (accounts_of t).graft)
+    accounts_by (with_sums k (paid_at p i 1 (sums_of t k)) t)
+    (at2 p pt (Some (taken_from k (graft_seen t i g))) (accounts_of t).graft)
     (at p (spend k (account_at t p)) (account_at t))
     (spend_grafts t k p pt g long_sums h low stands)
     (spend_accounts t k p i (omega arith))
@@ -221,13 +266,16 @@ graft_charged t k p pt g long_sums h low stands billed =
 pub account_charge_seen : (t u : Table) (k : Kind) (p pt : ℕ) (g : Standing) (b : Bool) → IsTable t → p < 16 → pt < 16 →
     standing_at t (16 * p + pt) ≡ Some g → g.billed ≡ true → u ≡ cond b (with_sums k (paid p 1 (sums_of t k)) t) t →
     accounts_of u ≡ cond b (charge k p pt (accounts_of t)) (accounts_of t)
-account_charge_seen t u k p pt g true table h low stands billed e = ap accounts_of e ∙ account_charged t k p pt g (long_of t k table) h low stands billed
+account_charge_seen t u k p pt g true table h low stands billed e =
+    ap accounts_of e ∙ account_charged t k p pt g (long_of t k table) h low stands billed
 account_charge_seen t u k p pt g false table h low stands billed e = ap accounts_of e
 
 pub graft_charge_seen : (t u : Table) (k : Kind) (p pt : ℕ) (g : Standing) (b : Bool) → IsTable t → p < 16 → pt < 16 →
-    standing_at t (16 * p + pt) ≡ Some g → g.billed ≡ false → u ≡ cond b (with_sums k (paid_at p (16 * p + pt) 1 (sums_of t k)) t) t →
+    standing_at t (16 * p + pt) ≡ Some g → g.billed ≡ false →
+    u ≡ cond b (with_sums k (paid_at p (16 * p + pt) 1 (sums_of t k)) t) t →
     accounts_of u ≡ cond b (charge k p pt (accounts_of t)) (accounts_of t)
-graft_charge_seen t u k p pt g true table h low stands billed e = ap accounts_of e ∙ graft_charged t k p pt g (long_of t k table) h low stands billed
+graft_charge_seen t u k p pt g true table h low stands billed e =
+    ap accounts_of e ∙ graft_charged t k p pt g (long_of t k table) h low stands billed
 graft_charge_seen t u k p pt g false table h low stands billed e = ap accounts_of e
 
 -- ---- grafts put in place and taken out
@@ -241,7 +289,10 @@ same_sums i g t Locks = refl
 same_accounts : (t u : Table) (r : ℕ) → ((j : Kind) → sums_of u j ≡ sums_of t j) → account_at u r ≡ account_at t r
 same_accounts t u r e =
     let amounts : (λ (j : Kind). sums_of u j) ≡ (λ (j : Kind). sums_of t j) = fun_ext e in
-    let value : (Kind → Sums) → AcctValue = λ f. record { balance = λ k. slice_index (f k).balances r; spent = λ k. slice_index (f k).spent r } in
+    let value : (Kind → Sums) → AcctValue = λ f. record {
+      balance = λ k. slice_index (f k).balances r;
+      spent = λ k. slice_index (f k).spent r;
+    } in
     ap value amounts
 
 placed : (t : Table) (p pt : ℕ) (g : Standing) (x : GraftValue) → IsTable t → p < 16 → pt < 16 →
@@ -257,7 +308,8 @@ placed t p pt g x table h low same =
     accounts_by u (at2 p pt (Some x) (accounts_of t).graft) (account_at t)
     (grafts_but u t p pt (Some x) low
     (ap (graft_at u i) (get_or-set_same t.grafts i (Some g) None inside) ∙ ap (graft_by g) (amounts i) ∙ same)
-    (λ j apart. ap (graft_at u j) (get_or-set_other t.grafts i j (Some g) None apart) ∙ graft_alike u t j (standing_at t j) (amounts j)))
+    (λ j apart. ap (graft_at u j) (get_or-set_other t.grafts i j (Some g) None apart)
+    ∙ graft_alike u t j (standing_at t j) (amounts j)))
     (fun_ext (λ r. same_accounts t u r (same_sums i g t)))
 
 -- nothing stands at a point exactly where nothing stands at its place
@@ -265,10 +317,12 @@ none_standing : (t : Table) (i : ℕ) (g : Option Standing) → graft_at t i g �
 none_standing t i None e = refl
 none_standing t i (Some g) e = cc
 
-no_funds : (t : Table) (i : ℕ) → IsTable t → standing_at t i ≡ None → field_of (λ a. slice_index a.funds i) t ≡ (λ (k : Kind). 0)
+no_funds : (t : Table) (i : ℕ) → IsTable t → standing_at t i ≡ None →
+    field_of (λ a. slice_index a.funds i) t ≡ (λ (k : Kind). 0)
 no_funds t i table e = fun_ext (λ k. (kept_of t k table).none i e)
 
-pub install_seen : (t u : Table) (p pt image limit : ℕ) (g : Standing) → IsTable t → p < 16 → pt < 16 → (accounts_of t).graft p pt ≡ None →
+pub install_seen : (t u : Table) (p pt image limit : ℕ) (g : Standing) → IsTable t → p < 16 →
+    pt < 16 → (accounts_of t).graft p pt ≡ None →
     g ≡ record { image = image; limit = limit; billed = false } → u ≡ put_at (16 * p + pt) g t →
     accounts_of u ≡ with_graft p pt (new_graft image limit) (accounts_of t)
 install_seen t u p pt image limit g table h low free is e =
@@ -276,9 +330,11 @@ install_seen t u p pt image limit g table h low free is e =
     let none : standing_at t i ≡ None = none_standing t i (standing_at t i) (sym (graft_point t p pt low) ∙ free) in
     ap accounts_of e
     ∙ placed t p pt g (new_graft image limit) table h low
-    (ap (λ s. graft_by s (field_of (λ a. slice_index a.funds i) t)) is ∙ ap (graft_by (record { image = image; limit = limit; billed = false })) (no_funds t i table none))
+    (ap (λ s. graft_by s (field_of (λ a. slice_index a.funds i) t)) is ∙ ap (graft_by
+    (record { image = image; limit = limit; billed = false })) (no_funds t i table none))
 
-pub bill_seen : (t u : Table) (p pt : ℕ) (g : Standing) → IsTable t → p < 16 → pt < 16 → standing_at t (16 * p + pt) ≡ Some g →
+pub bill_seen : (t u : Table) (p pt : ℕ) (g : Standing) → IsTable t → p < 16 → pt < 16 →
+    standing_at t (16 * p + pt) ≡ Some g →
     u ≡ put_at (16 * p + pt) (record g { billed = true }) t →
     accounts_of u ≡ after_bill p pt ((accounts_of t).graft p pt) (accounts_of t)
 bill_seen t u p pt g table h low stands e =
@@ -301,7 +357,8 @@ back_of t p i Records = refl
 back_of t p i Locks = refl
 
 -- a number of each kind, once a graft was taken out
-back_field : (f : Sums → ℕ) (h : Kind → ℕ) (t : Table) (p i : ℕ) → ((k : Kind) → f (given_back p i (sums_of t k)) ≡ h k) →
+back_field : (f : Sums → ℕ) (h : Kind → ℕ) (t : Table) (p i : ℕ) →
+    ((k : Kind) → f (given_back p i (sums_of t k)) ≡ h k) →
     field_of f (taken_out p i t) ≡ h
 back_field f h t p i e = fun_ext (λ k. ap f (back_of t p i k) ∙ e k)
 
@@ -339,18 +396,22 @@ back_grafts t p pt table h low =
     (λ j apart. ap (graft_at u j) (get_or-set_other t.grafts i j None None apart)
     ∙ graft_alike u t j (standing_at t j)
     (back_field (λ s. slice_index s.funds j) (field_of (λ s. slice_index s.funds j) t) t p i
-    (λ k. set_other (sums_of t k).funds i j (slice_index (sums_of t k).funds i - slice_index (sums_of t k).funds i) apart)))
+    (λ k. set_other (sums_of t k).funds i j
+    (slice_index (sums_of t k).funds i - slice_index (sums_of t k).funds i) apart)))
 
-pub remove_seen : (t u : Table) (p pt : ℕ) (g : Standing) → IsTable t → p < 16 → pt < 16 → standing_at t (16 * p + pt) ≡ Some g →
+pub remove_seen : (t u : Table) (p pt : ℕ) (g : Standing) → IsTable t → p < 16 → pt < 16 →
+    standing_at t (16 * p + pt) ≡ Some g →
     u ≡ taken_out p (16 * p + pt) t → accounts_of u ≡ removed p pt (accounts_of t)
 remove_seen t u p pt g table h low stands e =
     let i = 16 * p + pt in
     ap accounts_of e
-    ∙ accounts_by (taken_out p i t) (at2 p pt None (accounts_of t).graft) (at p (returned (graft_seen t i g) (account_at t p)) (account_at t))
+    ∙ accounts_by (taken_out p i t) (at2 p pt None (accounts_of t).graft)
+    (at p (returned (graft_seen t i g) (account_at t p)) (account_at t))
     (back_grafts t p pt table h low) (back_accounts t p i g table h)
     ∙ ap (λ o. removed_by p pt o (accounts_of t)) (sym (graft_standing t p pt g low stands))
 
-pub remove_totals : (t u : Table) (p i : ℕ) → u ≡ taken_out p i t → IsTable t → IsTable u → (j : Kind) → total (accounts_of u) j ≡ total (accounts_of t) j
+pub remove_totals : (t u : Table) (p i : ℕ) → u ≡ taken_out p i t → IsTable t → IsTable u →
+    (j : Kind) → total (accounts_of u) j ≡ total (accounts_of t) j
 remove_totals t u p i e h k j =
     totals_stay t u h k (λ j. ap (λ v. (sums_of v j).grant) e ∙ ap (λ a. a.grant) (back_of t p i j)) j
 
@@ -361,10 +422,12 @@ closed_of t p Steps = refl
 closed_of t p Records = refl
 closed_of t p Locks = refl
 
-closed_field : (f : Sums → ℕ) (h : Kind → ℕ) (t : Table) (p : ℕ) → ((k : Kind) → f (closed p (sums_of t k)) ≡ h k) → field_of f (closed_all p t) ≡ h
+closed_field : (f : Sums → ℕ) (h : Kind → ℕ) (t : Table) (p : ℕ) →
+    ((k : Kind) → f (closed p (sums_of t k)) ≡ h k) → field_of f (closed_all p t) ≡ h
 closed_field f h t p e = fun_ext (λ k. ap f (closed_of t p k) ∙ e k)
 
-moved_from : (p : ℕ) (xs : List ℕ) → 0 < p → p < length xs → slice_index (more_at 0 (slice_index xs p) (less_at p (slice_index xs p) xs)) p ≡ 0
+moved_from : (p : ℕ) (xs : List ℕ) → 0 < p → p < length xs →
+    slice_index (more_at 0 (slice_index xs p) (less_at p (slice_index xs p) xs)) p ≡ 0
 moved_from p xs some h =
     let n = slice_index xs p in
     let ys = less_at p n xs in
@@ -394,7 +457,8 @@ at_else : {A : Type 0} (i j : ℕ) (v : A) (f : ℕ → A) → j ≢ i → at i 
 at_else i j v f h = let no : (j == i) ≡ false = grind (arith, nat_tests) in rw no refl
 
 close_accounts : (t : Table) (p : ℕ) → IsTable t → p < 16 → 0 < p →
-    account_at (closed_all p t) ≡ at p empty_account (at 0 (joint_account (account_at t p) (account_at t 0)) (account_at t))
+    account_at (closed_all p t) ≡ at p empty_account
+    (at 0 (joint_account (account_at t p) (account_at t 0)) (account_at t))
 close_accounts t p table h some =
     let joint = joint_account (account_at t p) (account_at t 0) in
     let u = closed_all p t in
@@ -403,12 +467,16 @@ close_accounts t p table h some =
     let P : ℕ → Type 0 = λ j. j ≢ p → account_at u j ≡ at 0 joint (account_at t) j in
     at_by (account_at u) (at 0 joint (account_at t)) p empty_account
     (accounts_alike _ _ _ _
-    (closed_field (λ a. slice_index a.balances p) (λ k. 0) t p (λ k. moved_from p (b k) some (the_inside t k p table h)))
-    (closed_field (λ a. slice_index a.spent p) (λ k. 0) t p (λ k. moved_from p (s k) some (the_inside_spent t k p table h))))
+    (closed_field (λ a. slice_index a.balances p) (λ k. 0) t p
+    (λ k. moved_from p (b k) some (the_inside t k p table h)))
+    (closed_field (λ a. slice_index a.spent p) (λ k. 0) t p
+    (λ k. moved_from p (s k) some (the_inside_spent t k p table h))))
     (each_place P 0
     (λ _. accounts_alike _ _ _ _
-    (closed_field (λ a. slice_index a.balances 0) joint.balance t p (λ k. moved_first p (b k) some (the_inside t k p table h)))
-    (closed_field (λ a. slice_index a.spent 0) joint.spent t p (λ k. moved_first p (s k) some (the_inside_spent t k p table h))))
+    (closed_field (λ a. slice_index a.balances 0) joint.balance t p
+    (λ k. moved_first p (b k) some (the_inside t k p table h)))
+    (closed_field (λ a. slice_index a.spent 0) joint.spent t p
+    (λ k. moved_first p (s k) some (the_inside_spent t k p table h))))
     (λ j apart other. accounts_alike _ _ _ _
     (closed_field (λ a. slice_index a.balances j) (account_at t j).balance t p (λ k. moved_else p (b k) j other apart))
     (closed_field (λ a. slice_index a.spent j) (account_at t j).spent t p (λ k. moved_else p (s k) j other apart))
@@ -419,17 +487,21 @@ close_grafts t p =
     grafts_same (closed_all p t) t (λ i. graft_alike (closed_all p t) t i (standing_at t i)
     (closed_field (λ a. slice_index a.funds i) (field_of (λ a. slice_index a.funds i) t) t p (λ k. refl)))
 
-pub close_seen : (t u : Table) (p : ℕ) → IsTable t → p < 16 → 0 < p → u ≡ closed_all p t → accounts_of u ≡ account_closed p (accounts_of t)
+pub close_seen : (t u : Table) (p : ℕ) → IsTable t → p < 16 → 0 < p → u ≡ closed_all p t →
+    accounts_of u ≡ account_closed p (accounts_of t)
 close_seen t u p table h some e =
     ap accounts_of e
-    ∙ accounts_by (closed_all p t) (accounts_of t).graft (at p empty_account (at 0 (joint_account (account_at t p) (account_at t 0)) (account_at t)))
+    ∙ accounts_by (closed_all p t) (accounts_of t).graft
+    (at p empty_account (at 0 (joint_account (account_at t p) (account_at t 0)) (account_at t)))
     (close_grafts t p) (close_accounts t p table h some)
 
-pub close_totals : (t u : Table) (p : ℕ) → u ≡ closed_all p t → IsTable t → IsTable u → (j : Kind) → total (accounts_of u) j ≡ total (accounts_of t) j
+pub close_totals : (t u : Table) (p : ℕ) → u ≡ closed_all p t → IsTable t → IsTable u → (j : Kind) →
+    total (accounts_of u) j ≡ total (accounts_of t) j
 close_totals t u p e h k j =
     totals_stay t u h k (λ j. ap (λ v. (sums_of v j).grant) e ∙ ap (λ a. a.grant) (closed_of t p j)) j
 
-pub put_totals : (t u : Table) (i : ℕ) (g : Standing) → u ≡ put_at i g t → IsTable t → IsTable u → (j : Kind) → total (accounts_of u) j ≡ total (accounts_of t) j
+pub put_totals : (t u : Table) (i : ℕ) (g : Standing) → u ≡ put_at i g t → IsTable t → IsTable u →
+    (j : Kind) → total (accounts_of u) j ≡ total (accounts_of t) j
 put_totals t u i g e h k j =
     totals_stay t u h k (λ j. ap (λ v. (sums_of v j).grant) e ∙ ap (λ a. a.grant) (same_sums i g t j)) j
 
@@ -448,15 +520,19 @@ seen_stands : (t : Table) (i : ℕ) (o : Option Standing) → is_some (graft_at 
 seen_stands t i None = refl
 seen_stands t i (Some g) = refl
 
-pub fund_stands : (t u : Table) (k : Kind) (p pt n : ℕ) → IsTable t → p < 16 → pt < 16 → is_some ((accounts_of t).graft p pt) ≡ true →
+pub fund_stands : (t u : Table) (k : Kind) (p pt n : ℕ) → IsTable t → p < 16 → pt < 16 →
+    is_some ((accounts_of t).graft p pt) ≡ true →
     n ≤ slice_index (sums_of t k).balances p → u ≡ with_sums k (funded_at p (16 * p + pt) n (sums_of t k)) t →
     accounts_of u ≡ after_fund p pt k n ((accounts_of t).graft p pt) (accounts_of t)
 fund_stands t u k p pt n table h low stands enough e =
     let i = 16 * p + pt in
-    let found = stands_by (standing_at t i) (sym (ap is_some (graft_point t p pt low) ∙ seen_stands t i (standing_at t i)) ∙ stands) in
+    let found = stands_by (standing_at t i)
+    (sym (ap is_some (graft_point t p pt low) ∙ seen_stands t i (standing_at t i)) ∙ stands) in
     fund_seen t u k p pt n found.standing table h low found.is enough e
 
-pub remove_stands : (t u : Table) (p pt : ℕ) → IsTable t → p < 16 → pt < 16 → is_some (standing_at t (16 * p + pt)) ≡ true →
+pub remove_stands : (t u : Table) (p pt : ℕ) → IsTable t → p < 16 → pt < 16 →
+    is_some (standing_at t (16 * p + pt)) ≡ true →
     u ≡ taken_out p (16 * p + pt) t → accounts_of u ≡ removed p pt (accounts_of t)
 remove_stands t u p pt table h low stands e =
-    let found = stands_by (standing_at t (16 * p + pt)) stands in remove_seen t u p pt found.standing table h low found.is e
+    let found = stands_by (standing_at t (16 * p + pt)) stands in
+    remove_seen t u p pt found.standing table h low found.is e

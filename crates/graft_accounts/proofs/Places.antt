@@ -1,5 +1,6 @@
 -- One changed place of a list, and functions of places.
-use Rattle.std.proofs.Common.{◌≡◌, ◌≢◌, ℕ, ◌<◌, ◌==◌, ◌&&◌, Bool, true, false, cond, List, length, slice_index, slice_set, refl, subst, arith}
+use Rattle.std.proofs.Common.{◌≡◌, ◌≢◌, ℕ, ◌<◌, ◌==◌, ◌&&◌, Bool, true, false, cond, List, length}
+use Rattle.std.proofs.Common.{slice_index, slice_set, refl, subst, arith}
 use Rattle.std.proofs.Math.Path.{fun_ext}
 use Rattle.std.proofs.lemmas.Bool.Decides.{nat_tests}
 use Rattle.std.proofs.lemmas.List.{get_or-set_same, get_or-set_other}
@@ -23,7 +24,8 @@ place_by P i here other j false e = let apart : j ≢ i = grind (arith, nat_test
 pub each_place : (P : ℕ → Type 0) (i : ℕ) → P i → ((j : ℕ) → j ≢ i → P j) → (j : ℕ) → P j
 each_place P i here other j = place_by P i here other j (j == i) refl
 
-at_one : {A : Type 0} (f g : ℕ → A) (i : ℕ) (v : A) → f i ≡ v → ((j : ℕ) → j ≢ i → f j ≡ g j) → (j : ℕ) (b : Bool) → (j == i) ≡ b →
+at_one : {A : Type 0} (f g : ℕ → A) (i : ℕ) (v : A) → f i ≡ v → ((j : ℕ) → j ≢ i → f j ≡ g j) →
+    (j : ℕ) (b : Bool) → (j == i) ≡ b →
     f j ≡ cond b v (g j)
 at_one {A} f g i v here other j true e =
     let same : i ≡ j = grind (arith, nat_tests) in
@@ -34,7 +36,8 @@ at_one f g i v here other j false e = let apart : j ≢ i = grind (arith, nat_te
 pub at_by : {A : Type 0} (f g : ℕ → A) (i : ℕ) (v : A) → f i ≡ v → ((j : ℕ) → j ≢ i → f j ≡ g j) → f ≡ at i v g
 at_by f g i v here other = fun_ext (λ j. at_one f g i v here other j (j == i) refl)
 
-at2_one : {A : Type 0} (f g : ℕ → ℕ → A) (i k : ℕ) (v : A) → f i k ≡ v → ((j l : ℕ) → (j == i && l == k) ≡ false → f j l ≡ g j l) →
+at2_one : {A : Type 0} (f g : ℕ → ℕ → A) (i k : ℕ) (v : A) → f i k ≡ v →
+    ((j l : ℕ) → (j == i && l == k) ≡ false → f j l ≡ g j l) →
     (j l : ℕ) (b : Bool) → (j == i && l == k) ≡ b → f j l ≡ cond b v (g j l)
 at2_one f g i k v here other j l true e =
     let first : i ≡ j = grind (arith, nat_tests) in
@@ -44,7 +47,8 @@ at2_one f g i k v here other j l true e =
 at2_one f g i k v here other j l false e = other j l e
 
 -- a function of two numbers that is another one but at one pair
-pub at2_by : {A : Type 0} (f g : ℕ → ℕ → A) (i k : ℕ) (v : A) → f i k ≡ v → ((j l : ℕ) → (j == i && l == k) ≡ false → f j l ≡ g j l) → f ≡ at2 i k v g
+pub at2_by : {A : Type 0} (f g : ℕ → ℕ → A) (i k : ℕ) (v : A) → f i k ≡ v →
+    ((j l : ℕ) → (j == i && l == k) ≡ false → f j l ≡ g j l) → f ≡ at2 i k v g
 at2_by f g i k v here other = fun_ext (λ j. fun_ext (λ l. at2_one f g i k v here other j l (j == i && l == k) refl))
 
 kind_same : (k j : Kind) (f : Kind → ℕ) → at_kind k (f k) f j ≡ f j

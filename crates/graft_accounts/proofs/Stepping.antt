@@ -1,5 +1,6 @@
 -- Steps that are charged at once are as if they were charged one after another.
-use Rattle.std.proofs.Common.{◌≡◌, ℕ, zero, suc, ◌+◌, ◌-◌, ◌*◌, ◌<◌, true, false, List, length, slice_index, slice_set, Some, arith, sym, ◌∙◌, ap}
+use Rattle.std.proofs.Common.{◌≡◌, ℕ, zero, suc, ◌+◌, ◌-◌, ◌*◌, ◌<◌, true, false, List, length}
+use Rattle.std.proofs.Common.{slice_index, slice_set, Some, arith, sym, ◌∙◌, ap}
 use Rattle.std.proofs.lemmas.List.{length-set, set-set, set-get_or}
 use Rattle.kernel_model.specs.declared.Kind.TheVariants.{Steps}
 use Rattle.kernel_model.specs.Charges.{charge, charged_steps}
@@ -21,13 +22,15 @@ less_more : (i n : ℕ) (xs : List ℕ) → i < length xs → less_at i 1 (less_
 less_more i n xs h =
     let x = slice_index xs i in
     set_twice xs i (slice_index (less_at i n xs) i - 1) (x - n)
-    ∙ ap (λ v. slice_set xs i v) (ap (λ v. v - 1) (set_here xs i (x - n) h) ∙ (let e : x - n - 1 ≡ x - suc n = omega arith in e))
+    ∙ ap (λ v. slice_set xs i v) (ap (λ v. v - 1) (set_here xs i (x - n) h)
+    ∙ (let e : x - n - 1 ≡ x - suc n = omega arith in e))
 
 more_more : (i n : ℕ) (xs : List ℕ) → i < length xs → more_at i 1 (more_at i n xs) ≡ more_at i (suc n) xs
 more_more i n xs h =
     let x = slice_index xs i in
     set_twice xs i (slice_index (more_at i n xs) i + 1) (x + n)
-    ∙ ap (λ v. slice_set xs i v) (ap (λ v. v + 1) (set_here xs i (x + n) h) ∙ (let e : x + n + 1 ≡ x + suc n = omega arith in e))
+    ∙ ap (λ v. slice_set xs i v) (ap (λ v. v + 1) (set_here xs i (x + n) h)
+    ∙ (let e : x + n + 1 ≡ x + suc n = omega arith in e))
 
 less_none : (i : ℕ) (xs : List ℕ) → less_at i 0 xs ≡ xs
 less_none i xs = set_itself xs i (slice_index xs i - 0) (omega arith)
@@ -55,15 +58,20 @@ paid_more : (p n : ℕ) (s : Sums) → IsLong s → p < 16 → paid p 1 (paid p 
 paid_more p n s h low =
     let b = h.balances in
     let sp = h.spent in
-    ap (λ (xs : List ℕ). record s { balances = xs; spent = more_at p 1 (more_at p n s.spent) }) (less_more p n s.balances (omega arith))
-    ∙ ap (λ (xs : List ℕ). record s { balances = less_at p (suc n) s.balances; spent = xs }) (more_more p n s.spent (omega arith))
+    ap (λ (xs : List ℕ). record s { balances = xs; spent = more_at p 1 (more_at p n s.spent) })
+    (less_more p n s.balances (omega arith))
+    ∙ ap (λ (xs : List ℕ). record s { balances = less_at p (suc n) s.balances; spent = xs })
+    (more_more p n s.spent (omega arith))
 
-paid_at_more : (p i n : ℕ) (s : Sums) → IsLong s → p < 16 → i < 256 → paid_at p i 1 (paid_at p i n s) ≡ paid_at p i (suc n) s
+paid_at_more : (p i n : ℕ) (s : Sums) → IsLong s → p < 16 → i < 256 →
+    paid_at p i 1 (paid_at p i n s) ≡ paid_at p i (suc n) s
 paid_at_more p i n s h low at =
     let f = h.funds in
     let sp = h.spent in
-    ap (λ (xs : List ℕ). record s { funds = xs; spent = more_at p 1 (more_at p n s.spent) }) (less_more i n s.funds (omega arith))
-    ∙ ap (λ (xs : List ℕ). record s { funds = less_at i (suc n) s.funds; spent = xs }) (more_more p n s.spent (omega arith))
+    ap (λ (xs : List ℕ). record s { funds = xs; spent = more_at p 1 (more_at p n s.spent) })
+    (less_more i n s.funds (omega arith))
+    ∙ ap (λ (xs : List ℕ). record s { funds = less_at i (suc n) s.funds; spent = xs })
+    (more_more p n s.spent (omega arith))
 
 paid_none : (p : ℕ) (s : Sums) → paid p 0 s ≡ s
 paid_none p s =
@@ -78,30 +86,38 @@ paid_at_none p i s =
 -- ---- the books
 
 -- the account pays
-billed_steps : (n : ℕ) (t : Table) (p pt : ℕ) (g : Standing) → IsLong t.steps → p < 16 → pt < 16 → standing_at t (16 * p + pt) ≡ Some g → g.billed ≡ true
+billed_steps : (n : ℕ) (t : Table) (p pt : ℕ) (g : Standing) → IsLong t.steps → p < 16 → pt < 16 →
+    standing_at t (16 * p + pt) ≡ Some g → g.billed ≡ true
     → accounts_of (with_sums Steps (paid p n t.steps) t) ≡ charged_steps n p pt (accounts_of t)
-billed_steps zero t p pt g long h low stands billed = ap (λ (s : Sums). accounts_of (with_sums Steps s t)) (paid_none p t.steps)
+billed_steps zero t p pt g long h low stands billed =
+    ap (λ (s : Sums). accounts_of (with_sums Steps s t)) (paid_none p t.steps)
 billed_steps (suc n) t p pt g long h low stands billed =
     ap (λ (s : Sums). accounts_of (with_sums Steps s t)) (sym (paid_more p n t.steps long h))
-    ∙ account_charged (with_sums Steps (paid p n t.steps) t) Steps p pt g (long_paid p n t.steps long) h low stands billed
+    ∙ account_charged (with_sums Steps (paid p n t.steps) t) Steps p pt g
+    (long_paid p n t.steps long) h low stands billed
     ∙ ap (charge Steps p pt) (billed_steps n t p pt g long h low stands billed)
 
 -- the graft pays
-funded_steps : (n : ℕ) (t : Table) (p pt : ℕ) (g : Standing) → IsLong t.steps → p < 16 → pt < 16 → standing_at t (16 * p + pt) ≡ Some g → g.billed ≡ false
+funded_steps : (n : ℕ) (t : Table) (p pt : ℕ) (g : Standing) → IsLong t.steps → p < 16 → pt < 16 →
+    standing_at t (16 * p + pt) ≡ Some g → g.billed ≡ false
     → accounts_of (with_sums Steps (paid_at p (16 * p + pt) n t.steps) t) ≡ charged_steps n p pt (accounts_of t)
 funded_steps zero t p pt g long h low stands billed =
     ap (λ (s : Sums). accounts_of (with_sums Steps s t)) (paid_at_none p (16 * p + pt) t.steps)
 funded_steps (suc n) t p pt g long h low stands billed =
-    ap (λ (s : Sums). accounts_of (with_sums Steps s t)) (sym (paid_at_more p (16 * p + pt) n t.steps long h (omega arith)))
-    ∙ graft_charged (with_sums Steps (paid_at p (16 * p + pt) n t.steps) t) Steps p pt g (long_paid_at p (16 * p + pt) n t.steps long) h low stands billed
+    ap (λ (s : Sums). accounts_of (with_sums Steps s t))
+    (sym (paid_at_more p (16 * p + pt) n t.steps long h (omega arith)))
+    ∙ graft_charged (with_sums Steps (paid_at p (16 * p + pt) n t.steps) t) Steps p pt g
+    (long_paid_at p (16 * p + pt) n t.steps long) h low stands billed
     ∙ ap (charge Steps p pt) (funded_steps n t p pt g long h low stands billed)
 
-pub billed_seen : (n : ℕ) (t u : Table) (p pt : ℕ) (g : Standing) → IsTable t → p < 16 → pt < 16 → standing_at t (16 * p + pt) ≡ Some g → g.billed ≡ true
+pub billed_seen : (n : ℕ) (t u : Table) (p pt : ℕ) (g : Standing) → IsTable t → p < 16 → pt < 16 →
+    standing_at t (16 * p + pt) ≡ Some g → g.billed ≡ true
     → u ≡ with_sums Steps (paid p n t.steps) t → accounts_of u ≡ charged_steps n p pt (accounts_of t)
 billed_seen n t u p pt g table h low stands billed e =
     ap accounts_of e ∙ billed_steps n t p pt g (long_of t Steps table) h low stands billed
 
-pub funded_seen : (n : ℕ) (t u : Table) (p pt : ℕ) (g : Standing) → IsTable t → p < 16 → pt < 16 → standing_at t (16 * p + pt) ≡ Some g → g.billed ≡ false
+pub funded_seen : (n : ℕ) (t u : Table) (p pt : ℕ) (g : Standing) → IsTable t → p < 16 → pt < 16 →
+    standing_at t (16 * p + pt) ≡ Some g → g.billed ≡ false
     → u ≡ with_sums Steps (paid_at p (16 * p + pt) n t.steps) t → accounts_of u ≡ charged_steps n p pt (accounts_of t)
 funded_seen n t u p pt g table h low stands billed e =
     ap accounts_of e ∙ funded_steps n t p pt g (long_of t Steps table) h low stands billed

@@ -1,5 +1,7 @@
 -- In all there is the grant.
-use Rattle.std.proofs.Common.{◌≡◌, ℕ, zero, suc, ◌+◌, ◌*◌, ◌<◌, List, [], ◌∷◌, length, sum, slice_index, Option, Some, None, refl, sym, subst, ◌∙◌, ap, arith, add-zero, add-suc}
+use Rattle.std.proofs.Common.{◌≡◌, ℕ, zero, suc, ◌+◌, ◌*◌, ◌<◌, List, [], ◌∷◌, length, sum}
+use Rattle.std.proofs.Common.{slice_index, Option, Some, None, refl, sym, subst, ◌∙◌, ap, arith}
+use Rattle.std.proofs.Common.{add-zero, add-suc}
 use Rattle.std.proofs.lemmas.List.Sums.{sum_by-cons}
 use Rattle.kernel_model.specs.declared.Kind.{Kind}
 use Rattle.kernel_model.specs.declared.Kind.TheVariants.{Steps, Records, Locks}
@@ -37,7 +39,9 @@ sum_split a (suc m) f = let rest = sum_split a m f in rw add-suc (omega arith)
 sum_list : (xs : List ℕ) → sum_below (length xs) (slice_index xs) ≡ sum xs
 unfolding sum_below
 sum_list [] = refl
-sum_list (x ∷ xs) = sum_front (length xs) (slice_index (x ∷ xs)) ∙ ap (λ n. x + n) (sum_list xs) ∙ sym (sum_by-cons (λ (n : ℕ). n) x xs)
+sum_list (x ∷ xs) =
+    sum_front (length xs) (slice_index (x ∷ xs)) ∙ ap (λ n. x + n) (sum_list xs)
+    ∙ sym (sum_by-cons (λ (n : ℕ). n) x xs)
 
 -- rows of m places
 sum_rows : (n m : ℕ) (f : ℕ → ℕ) → sum_below n (λ q. sum_below m (λ i. f (m * q + i))) ≡ sum_below (m * n) f
@@ -100,7 +104,8 @@ pub totals_stay : (t u : Table) → IsTable t → IsTable u → ((j : Kind) → 
 totals_stay t u h k same j = total_of u j k ∙ same j ∙ sym (total_of t j h)
 
 -- and so after a move of amounts of one kind
-pub totals_with : (t u : Table) (k : Kind) (s : Sums) → u ≡ with_sums k s t → s.grant ≡ (sums_of t k).grant → IsTable t → IsTable u →
+pub totals_with : (t u : Table) (k : Kind) (s : Sums) → u ≡ with_sums k s t →
+    s.grant ≡ (sums_of t k).grant → IsTable t → IsTable u →
     (j : Kind) → total (accounts_of u) j ≡ total (accounts_of t) j
 totals_with t u k s e g h i j =
     totals_stay t u h i (λ j. ap (λ v. (sums_of v j).grant) e ∙ ap (λ f. f j) (same_fields (λ a. a.grant) k s t g)) j

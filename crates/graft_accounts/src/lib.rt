@@ -7,8 +7,6 @@ mod accounts;
 mod amounts;
 mod points;
 mod rows;
-#[cfg(test)]
-mod tests;
 
 pub use accounts::Accounts;
 pub use points::GraftPoint;

@@ -5,14 +5,15 @@ use Rattle.kernel_model.specs.Objects.{Things}
 use Rattle.kernel_model.specs.Locks.{LockTable}
 use Rattle.kernel_model.specs.GraftStep.{record_count}
 use Rattle.kernel_model.specs.UndoLog.{numbered_log}
-use Rattle.undo_calls.specs.UndoLevels.{Logged, found_of, innermost, recorded, records_of, by_age}
+use Rattle.graft_levels.specs.UndoLevels.{Logged, found_of, innermost, recorded, records_of, by_age}
 use Rattle.graft_levels.specs.declared.GraftLevel.{GraftLevel}
 use Rattle.graft_levels.specs.Chains.{put_back, levels_in, outer}
 
 numbered : (log : List (List Logged)) → length (records_of log) ≡ length (numbered_log log)
 numbered log = length-map (by_age log) (λ (r : ℕ × Logged). r.1) ∙ length-reverse (numbered_log log)
 
-counted : (p : ℕ) (ram : List ℕ) (t : LockTable) (gs : List GraftLevel) (log : List (List Logged)) (w : Things) → length log ≡ length gs →
+counted : (p : ℕ) (ram : List ℕ) (t : LockTable) (gs : List GraftLevel) (log : List (List Logged))
+    (w : Things) → length log ≡ length gs →
     record_count (levels_in p ram t gs log w) ≡ length (numbered_log log)
 counted p ram t [] [] w same = refl
 counted p ram t [] (is ∷ log) w same = absurd (omega arith)
@@ -24,12 +25,14 @@ counted p ram t (g ∷ gs) (is ∷ log) w same =
     ∙ sym (length-append (map (λ i. let r : ℕ × Logged = (length log, i) in r) is) (numbered_log log))
 
 -- the levels have as many records as the log
-pub record_count_is : (p : ℕ) (ram : List ℕ) (t : LockTable) (gs : List GraftLevel) (log : List (List Logged)) (w : Things) → length log ≡ length gs →
+pub record_count_is : (p : ℕ) (ram : List ℕ) (t : LockTable) (gs : List GraftLevel)
+    (log : List (List Logged)) (w : Things) → length log ≡ length gs →
     record_count (levels_in p ram t gs log w) ≡ length (records_of log)
 record_count_is p ram t gs log w same = counted p ram t gs log w same ∙ sym (numbered log)
 
 -- a record comes to the innermost level
-pub record_more : (i : Logged) (log : List (List Logged)) → 0 < length log → innermost (recorded i log) ≡ i ∷ innermost log
+pub record_more : (i : Logged) (log : List (List Logged)) → 0 < length log →
+    innermost (recorded i log) ≡ i ∷ innermost log
 record_more i [] some = absurd (omega arith)
 record_more i (is ∷ log) some = refl
 

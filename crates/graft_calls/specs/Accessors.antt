@@ -8,7 +8,7 @@ use Rattle.graft_levels.specs.declared.GraftLevel.{GraftLevel}
 use Rattle.graft_levels.specs.declared.Chain.{Chain}
 use Rattle.graft_levels.specs.declared.Innermost.{Innermost}
 use Rattle.graft_levels.specs.Calls.{IsTaken}
-use Rattle.lock_table.specs.declared.Holds.{Holds}
+use Rattle.graft_levels.specs.declared.Holds.{Holds}
 use Rattle.kernel_state.specs.declared.Store.{Store}
 use Rattle.graft_calls.specs.declared.accessors.Accessed.{Accessed}
 

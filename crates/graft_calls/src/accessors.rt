@@ -3,37 +3,36 @@
 ghost use Rattle.std.specs.Prelude.{◌≡◌, ◌≢◌, ℕ, suc, ◌<◌, ◌≤◌, ◌&&◌, ◌==◌, not, ◌∷◌, List, None};
 ghost use Rattle.std.specs.Prelude.{Some, Ok, true, length, slice_index, is_some};
 ghost use Rattle.kernel_model.specs.declared.Mode.TheVariants.{Exclusive};
-ghost use Rattle.kernel_model.specs.declared.QueueRow.{QueueRow as Waiting};
+ghost use Rattle.kernel_model.specs.declared.QueueRow.{QueueRow};
 ghost use Rattle.kernel_model.specs.Access.{accessed};
 ghost use Rattle.kernel_model.specs.GraftStep.{after_accessor, after_result, after_change};
 ghost use Rattle.kernel_model.specs.GraftStep.{is_lock_due as lock_due, is_record_spent};
 ghost use Rattle.kernel_model.specs.Laws.{IsInRange};
 ghost use Rattle.kernel_model.specs.Levels.{answered, with_machine};
 ghost use Rattle.kernel_model.specs.Locks.{LockTable as Table, outermost_holding, with_touch};
-ghost use Rattle.kernel_model.specs.Objects.{Accounts as Funds, Things};
+ghost use Rattle.kernel_model.specs.Objects.{Accounts, Things};
 ghost use Rattle.kernel_model.specs.Policies as spec;
 ghost use Rattle.kernel_model.specs.Sound.{ImagesAreLoaded};
 ghost use Rattle.kernel_model.specs.World.{ImageTable};
-ghost use Rattle.kernel_state.specs.Accesses.{answer_of, things_after, CanBeUndone};
+ghost use Rattle.graft_accessors.specs.Accesses.{answer_of, things_after, CanBeUndone};
 ghost use Rattle.kernel_state.specs.Stores.{world_of_store, objects_of};
-ghost use Rattle.lock_table.specs.Masks.{held};
-ghost use Rattle.undo_calls.specs.UndoLevels.{Logged, bare, innermost, is_bare, recorded, records_of};
+ghost use Rattle.graft_levels.specs.Masks.{held};
+ghost use Rattle.graft_levels.specs.UndoLevels.{Logged, bare, innermost, is_bare, recorded, records_of};
 ghost use Rattle.graft_levels.specs.Chains.{level_on, outer_on, levels_in};
 ghost use Rattle.graft_levels.specs.Calls.{AreSound, AreInside};
-ghost use Rattle.graft_levels.specs.Moments.{Comes, HasRoom, moment};
+ghost use Rattle.graft_levels.specs.Moments.{Comes, HasRoom, chain_moment};
 ghost use Rattle.graft_calls.specs.Accessors.{CanAccess, access_of, is_refused_early};
 
 use accessor_list::ids;
-use graft_accounts::GraftPoint;
+use graft_accessors::{answer, apply};
 use graft_levels::answers::arguments;
 use graft_levels::charges::{charge_lock, charge_record};
 use graft_levels::laws::stores_are_whole;
-use graft_levels::{Chain, GraftLevel, Innermost, Levels, drop_innermost};
-use graft_points::Policy;
+use graft_levels::{
+    Chain, GraftLevel, Holder, Innermost, Levels, LockTable, UndoStack, drop_innermost,
+};
 use kernel_model::{Cause, Inverse, Micro, Mode, Object};
-use kernel_state::Store;
-use lock_table::{Holder, LockTable};
-use undo_calls::UndoStack;
+use kernel_state::{GraftPoint, Policy, Store};
 
 /// A call of a plain accessor: its id, and what it looks at or changes, and how.
 #[derive(Clone, Copy)]
@@ -58,9 +57,9 @@ fn go_on(level: GraftLevel, r0: u32, levels: &mut Levels)
         levels_in p ram t levels.new log w ≡ with_machine (answered spec.Victim r0 0 l.machine) l
         ∷ outer_on p ram t levels.old log w }
     ensures count { length levels.new ≡ suc (length levels.old) }
-    ensures sound { (queue : List Waiting) → AreSound queue (level ∷ levels.old) →
+    ensures sound { (queue : List QueueRow) → AreSound queue (level ∷ levels.old) →
         AreSound queue levels.new }
-    ensures inside { (images : ImageTable) (a : Funds) (p : ℕ) →
+    ensures inside { (images : ImageTable) (a : Accounts) (p : ℕ) →
         AreInside images a p (level ∷ levels.old) → AreInside images a p levels.new }
 {
     let mut level = level;
@@ -87,8 +86,8 @@ fn give<B: Policy>(
     locks: &mut LockTable,
 ) -> Micro
     requires call { CanAccess store.old locks.old inner chain.old call }
-    ensures { Comes inner (moment store.old locks.old chain.old)
-        (moment store.new locks.new chain.new) result
+    ensures { Comes inner (chain_moment store.old locks.old chain.old)
+        (chain_moment store.new locks.new chain.new) result
         (λ v w l ls. after_result v w l ls l.machine call.id result_is
         (lock_due call.id (l.machine.regs 0) (l ∷ ls))) }
 {
@@ -133,8 +132,8 @@ fn change<B: Policy>(
     requires answer { answer_of (access_of call.id inner.level (objects_of store.old).things)
         ≡ Ok (record { result = changed.result; inverse = Some changed.inverse }) }
     requires undoable { CanBeUndone changed.inverse (objects_of store.old).things }
-    ensures { Comes inner (moment store.old locks.old chain.old)
-        (moment store.new locks.new chain.new) result
+    ensures { Comes inner (chain_moment store.old locks.old chain.old)
+        (chain_moment store.new locks.new chain.new) result
         (λ v w l ls. after_change v w l ls l.machine call.id changed.result changed.inverse
         (things_after (access_of call.id inner.level w.things) w.things)
         (is_record_spent w.accounts l ls)) }
@@ -148,7 +147,7 @@ fn change<B: Policy>(
         return drop_innermost(inner, chain, store, locks, Cause::SpentRecords);
     }
     stores_are_whole(store);
-    store.apply(call.id, arguments(&level.machine), level.owner);
+    apply(store, call.id, arguments(&level.machine), level.owner);
     record(&mut chain.undo, changed.inverse);
     let by = Holder {
         process: inner.process,
@@ -169,12 +168,17 @@ pub(crate) fn access<B: Policy>(
 ) -> Micro
     requires call { CanAccess store.old locks.old inner chain.old call }
     requires early { is_refused_early call.id inner.level ≡ None }
-    ensures { Comes inner (moment store.old locks.old chain.old)
-        (moment store.new locks.new chain.new) result
+    ensures { Comes inner (chain_moment store.old locks.old chain.old)
+        (chain_moment store.new locks.new chain.new) result
         (λ v w l ls. after_accessor v w l ls l.machine call.id
         (access_of call.id inner.level w.things)) }
 {
-    match store.answer(call.id, arguments(&inner.level.machine), inner.level.owner) {
+    match answer(
+        store,
+        call.id,
+        arguments(&inner.level.machine),
+        inner.level.owner,
+    ) {
         Err(cause) => drop_innermost(inner, chain, store, locks, cause),
         Ok(answer) => match answer.inverse {
             Some(inverse) => {

@@ -3,7 +3,7 @@
 ghost use Rattle.std.specs.Prelude.{◌≡◌, ◌≢◌, ℕ, suc, ◌<◌, ◌≤◌, ◌∷◌, ◌&&◌, ◌==◌, [], List, None};
 ghost use Rattle.std.specs.Prelude.{true, false, length, slice_index, is_some, All};
 ghost use Rattle.kernel_model.specs.declared.Mode.TheVariants.{Exclusive, Shared};
-ghost use Rattle.kernel_model.specs.declared.Need.{Need as Needed};
+ghost use Rattle.kernel_model.specs.declared.Need.{Need};
 ghost use Rattle.kernel_model.specs.declared.Object.TheVariants.{Graft};
 ghost use Rattle.kernel_model.specs.Access.{asked_point as point_asked, asked_objects, is_ask};
 ghost use Rattle.kernel_model.specs.GraftStep.{after_ask, ask_answered, ask_refusal as refusal_of_ask, is_vain_ask};
@@ -11,27 +11,23 @@ ghost use Rattle.kernel_model.specs.Laws.{IsInRange};
 ghost use Rattle.kernel_model.specs.Locks.{LockTable as Table, with_touch};
 ghost use Rattle.kernel_model.specs.Objects.{Things};
 ghost use Rattle.kernel_model.specs.Policies.{kind_of, lives};
-ghost use Rattle.undo_calls.specs.UndoLevels.{Logged};
-ghost use Rattle.graft_accounts.specs.Table.{accounts_of};
+ghost use Rattle.graft_levels.specs.UndoLevels.{Logged};
+ghost use Rattle.kernel_state.specs.Table.{accounts_of};
 ghost use Rattle.kernel_state.specs.Stores.{world_of_store, objects_of, queue_of};
-ghost use Rattle.lock_table.specs.Masks.{held};
-ghost use Rattle.graft_loader.specs.Slots.{table_of};
+ghost use Rattle.graft_levels.specs.Masks.{held};
+ghost use Rattle.graft_levels.specs.Slots.{table_of};
 ghost use Rattle.graft_levels.specs.Chains.{came, call_of, levels_in, levels_of, is_running_in};
 ghost use Rattle.graft_levels.specs.Calls.{IsInPlace, IsTakenInPlace, IsElsewhereSame, HasWrittenBegun, needs_touched};
-ghost use Rattle.graft_levels.specs.Moments.{StaysInPlace, moment, part_at};
+ghost use Rattle.graft_levels.specs.Moments.{StaysInPlace, chain_moment, part_at};
 ghost use Rattle.graft_calls.specs.Accessors.{is_refused_early};
 
-use graft_accounts::{Accounts, GraftPoint};
 use graft_levels::answers::give_answer;
 use graft_levels::{
-    Chain, GraftLevel, Innermost, Levels, args_of, asked_needs, asked_point, begin_level,
-    default_of, drop_innermost, image_of, touch_needs,
+    Chain, GraftLevel, Holder, Images, Innermost, Levels, LockTable, args_of, asked_needs,
+    asked_point, begin_level, default_of, drop_innermost, image_of, touch_needs,
 };
-use graft_loader::Images;
-use graft_points::Policy;
 use kernel_model::{Cause, Micro, Mode, Object, Point};
-use kernel_state::Store;
-use lock_table::{Holder, LockTable};
+use kernel_state::{Accounts, GraftPoint, Policy, Store};
 
 /// Whether a point can't be asked, as the values show: its file isn't open, or process q has no
 /// frame.
@@ -171,10 +167,10 @@ pub(crate) fn ask<B: Policy>(
     requires early { is_refused_early id inner.level ≡ None }
     ensures step { came (part_at (λ v w l ls. let pt = point_asked id (l.machine.regs 0) in
         after_ask v (table_of images.now) w inner.process l ls l.machine id pt
-        (refusal_of_ask w l.owner pt id (l ∷ ls))) inner (moment store.old locks.old chain.old))
+        (refusal_of_ask w l.owner pt id (l ∷ ls))) inner (chain_moment store.old locks.old chain.old))
         ≡ (result, call_of store.new locks.new chain.new inner.process) }
     ensures kept { StaysInPlace (table_of images.now) inner
-        (moment store.old locks.old chain.old) (moment store.new locks.new chain.new) }
+        (chain_moment store.old locks.old chain.old) (chain_moment store.new locks.new chain.new) }
 {
     let p = inner.process;
     let q = inner.level.owner;

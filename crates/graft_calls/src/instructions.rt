@@ -4,27 +4,22 @@ ghost use Rattle.std.specs.Prelude.{◌≡◌, ℕ, suc, ◌<◌, ◌≤◌, ◌
 ghost use Rattle.kernel_model.specs.Access.{early_refusal};
 ghost use Rattle.kernel_model.specs.GraftStep.{micro, micro_on, after_machine as after_step, after_call};
 ghost use Rattle.kernel_state.specs.Stores.{world_of_store, objects_of};
-ghost use Rattle.graft_machine.specs.Cpu.{done_of};
-ghost use Rattle.graft_loader.specs.Slots.{table_of};
+ghost use Rattle.graft_levels.specs.Cpu.{done_of};
+ghost use Rattle.graft_levels.specs.Slots.{table_of};
 ghost use Rattle.graft_levels.specs.Chains.{came, call_of, levels_of, HasAnswer, levels_taken};
 ghost use Rattle.graft_levels.specs.Calls.{IsInPlace, IsTakenInPlace, IsElsewhereSame, HasWrittenOwn, with_innermost};
-ghost use Rattle.graft_levels.specs.Moments.{StaysInPlace, moment, part_at};
+ghost use Rattle.graft_levels.specs.Moments.{StaysInPlace, chain_moment, part_at};
 
 use crate::accessors::{Accessed, access};
 use crate::asks::ask;
 use crate::returns::offer;
 use accessor_list::early;
-use graft_accounts::GraftPoint;
 use graft_levels::answers::arguments;
 use graft_levels::charges::charge_step;
 use graft_levels::laws::stores_are_whole;
-use graft_levels::{Chain, Innermost, code_of, drop_innermost};
-use graft_loader::Images;
-use graft_machine::Outcome;
-use graft_points::Policy;
+use graft_levels::{Chain, Images, Innermost, LockTable, Outcome, code_of, drop_innermost};
 use kernel_model::{Cause, LAST_CALLABLE, Micro};
-use kernel_state::Store;
-use lock_table::LockTable;
+use kernel_state::{GraftPoint, Policy, Store};
 
 /// What a call comes to. The machine is behind it.
 fn call<B: Policy>(
@@ -39,10 +34,10 @@ fn call<B: Policy>(
     ensures step { came (part_at (λ v w l ls. after_call v (table_of images.now) w
         inner.process l ls l.machine id
         (early_refusal v.callable id (l.machine.regs 0) (l.machine.regs 1) l.owner))
-        inner (moment store.old locks.old chain.old))
+        inner (chain_moment store.old locks.old chain.old))
         ≡ (result, call_of store.new locks.new chain.new inner.process) }
     ensures kept { StaysInPlace (table_of images.now) inner
-        (moment store.old locks.old chain.old) (moment store.new locks.new chain.new) }
+        (chain_moment store.old locks.old chain.old) (chain_moment store.new locks.new chain.new) }
 {
     if id > LAST_CALLABLE {
         return drop_innermost(inner, chain, store, locks, Cause::NotCallable(id));
@@ -67,14 +62,14 @@ fn after_machine<B: Policy>(
 ) -> Micro
     requires in_place { IsTakenInPlace store.old locks.old (table_of images.now) inner chain.old }
     ensures step { came (part_at (λ v w l ls. after_step v (table_of images.now) inner.process
-        w l ls (done_of done l.machine)) inner (moment store.old locks.old chain.old))
+        w l ls (done_of done l.machine)) inner (chain_moment store.old locks.old chain.old))
         ≡ (result, call_of store.new locks.new chain.new inner.process) }
     ensures answer { HasAnswer result store.new.ram inner.process
         (levels_taken store.old locks.old inner chain.old) }
     ensures returned { (registers : List ℕ) → result ≡ Micro.Completed registers →
         done ≡ Outcome.Returned }
     ensures kept { StaysInPlace (table_of images.now) inner
-        (moment store.old locks.old chain.old) (moment store.new locks.new chain.new) }
+        (chain_moment store.old locks.old chain.old) (chain_moment store.new locks.new chain.new) }
 {
     match done {
         Outcome::Went => {
@@ -92,7 +87,7 @@ fn after_machine<B: Policy>(
 
 /// One instruction of a level that was taken out of the chain: it is charged and done, or the level
 /// is dropped where no step is left.
-fn run<B: Policy>(
+fn run_level<B: Policy>(
     inner: Innermost,
     chain: &mut Chain,
     store: &mut Store<B>,
@@ -152,7 +147,7 @@ pub fn instruction<B: Policy>(
         chain.new.levels store.old.ram store.new.ram }
 {
     match chain.levels.pop() {
-        Some(level) => run(Innermost { process: p, level }, chain, store, locks, images),
+        Some(level) => run_level(Innermost { process: p, level }, chain, store, locks, images),
         None => Micro::Went,
     }
 }

@@ -2,13 +2,13 @@
 //! level holds already.
 
 ghost use Rattle.std.specs.Prelude.{◌≡◌, ◌≤◌, true, cond, List, Some, IfSome};
-ghost use Rattle.kernel_model.specs.declared.Instr.{Instr as Code};
-ghost use Rattle.kernel_model.specs.Access.{Access as Accessed};
+ghost use Rattle.kernel_model.specs.declared.Instr.{Instr};
+ghost use Rattle.kernel_model.specs.Access.{Access};
 ghost use Rattle.kernel_model.specs.Levels.{answered};
 ghost use Rattle.kernel_model.specs.Machine.{Machine as Cpu};
 ghost use Rattle.kernel_model.specs.Policies.{Victim, lives};
-ghost use Rattle.graft_machine.specs.Cpu.{by_place, machine_of};
-ghost use Rattle.kernel_state.specs.Accesses.{answer_of};
+ghost use Rattle.graft_levels.specs.Cpu.{by_place, machine_of};
+ghost use Rattle.graft_accessors.specs.Accesses.{answer_of};
 ghost use Rattle.kernel_state.specs.Stores.{queue_of};
 ghost use Rattle.placed_laws.specs.Stretch.{given as given_by, after_read};
 ghost use Rattle.graft_calls.specs.Stretch.{setting_of, GoesQuietly, IsSeated, HasArguments};
@@ -16,12 +16,11 @@ ghost use Rattle.graft_calls.specs.Stretch.{setting_of, GoesQuietly, IsSeated, H
 use crate::seat::Seat;
 use accessor_list::{early, ids};
 use box_verify::Verified;
+use graft_accessors::{AccessResult, answer};
 use graft_levels::answers::arguments;
-use graft_machine::Machine;
-use graft_points::Policy;
+use graft_levels::{LockTable, Machine};
 use kernel_model::{Cause, LAST_CALLABLE, Mode, Object};
-use kernel_state::{Access, Store};
-use lock_table::LockTable;
+use kernel_state::{Policy, Store};
 
 /// The highest number of a cell.
 const HIGHEST_CELL: u32 = 3;
@@ -33,8 +32,8 @@ const HIGHEST_DESCRIPTOR: u32 = 3;
 const HIGHEST_FRAME: u32 = 63;
 
 /// The result of an answer with which nothing changes.
-fn given(answer: Result<Access, Cause>) -> Option<u32>
-    ensures { (a : Accessed) → answer_of a ≡ answer → result ≡ given_by a }
+fn given(answer: Result<AccessResult, Cause>) -> Option<u32>
+    ensures { (a : Access) → answer_of a ≡ answer → result ≡ given_by a }
 {
     match answer {
         Ok(answer) => match answer.inverse {
@@ -54,7 +53,7 @@ fn look<B: Policy>(
     locks: &LockTable,
 ) -> Option<u32>
     requires { lives (queue_of store.now) seat.owner ≡ true }
-    ensures { (code : List Code) (m k : Cpu) → HasArguments arguments m →
+    ensures { (code : List Instr) (m k : Cpu) → HasArguments arguments m →
         let s = setting_of store.now locks.now code seat in
         IfSome result (λ r. after_read s id m k ≡ Some (answered Victim r 0 k)) }
 {
@@ -66,7 +65,7 @@ fn look<B: Policy>(
             if !locks.is_held(seat.place, object) {
                 return None;
             }
-            given(store.answer(id, arguments, seat.owner))
+            given(answer(store, id, arguments, seat.owner))
         }
         _ => None,
     }
@@ -76,7 +75,7 @@ fn look<B: Policy>(
 #[inline]
 fn cell<B: Policy>(number: u32, seat: Seat, store: &Store<B>, locks: &LockTable) -> Option<u32>
     requires { lives (queue_of store.now) seat.owner ≡ true }
-    ensures { (code : List Code) (m k : Cpu) → m.regs 0 ≡ number →
+    ensures { (code : List Instr) (m k : Cpu) → m.regs 0 ≡ number →
         let s = setting_of store.now locks.now code seat in
         IfSome result (λ r. after_read s 0 m k ≡ Some (answered Victim r 0 k)) }
 {
@@ -94,7 +93,7 @@ fn cell<B: Policy>(number: u32, seat: Seat, store: &Store<B>, locks: &LockTable)
 #[inline]
 fn nice<B: Policy>(seat: Seat, store: &Store<B>, locks: &LockTable) -> Option<u32>
     requires { lives (queue_of store.now) seat.owner ≡ true }
-    ensures { (code : List Code) (m k : Cpu) →
+    ensures { (code : List Instr) (m k : Cpu) →
         let s = setting_of store.now locks.now code seat in
         IfSome result (λ r. after_read s 2 m k ≡ Some (answered Victim r 0 k)) }
 {
@@ -109,7 +108,7 @@ fn nice<B: Policy>(seat: Seat, store: &Store<B>, locks: &LockTable) -> Option<u3
 #[inline]
 fn window<B: Policy>(number: u32, seat: Seat, store: &Store<B>, locks: &LockTable) -> Option<u32>
     requires { lives (queue_of store.now) seat.owner ≡ true }
-    ensures { (code : List Code) (m k : Cpu) → m.regs 0 ≡ number →
+    ensures { (code : List Instr) (m k : Cpu) → m.regs 0 ≡ number →
         let s = setting_of store.now locks.now code seat in
         IfSome result (λ r. after_read s 4 m k ≡ Some (answered Victim r 0 k)) }
 {
@@ -130,7 +129,7 @@ fn window<B: Policy>(number: u32, seat: Seat, store: &Store<B>, locks: &LockTabl
 #[inline]
 fn frames<B: Policy>(seat: Seat, store: &Store<B>, locks: &LockTable) -> Option<u32>
     requires { lives (queue_of store.now) seat.owner ≡ true }
-    ensures { (code : List Code) (m k : Cpu) →
+    ensures { (code : List Instr) (m k : Cpu) →
         let s = setting_of store.now locks.now code seat in
         IfSome result (λ r. after_read s 6 m k ≡ Some (answered Victim r 0 k)) }
 {
@@ -145,7 +144,7 @@ fn frames<B: Policy>(seat: Seat, store: &Store<B>, locks: &LockTable) -> Option<
 #[inline]
 fn frame<B: Policy>(number: u32, seat: Seat, store: &Store<B>, locks: &LockTable) -> Option<u32>
     requires { lives (queue_of store.now) seat.owner ≡ true }
-    ensures { (code : List Code) (m k : Cpu) → m.regs 0 ≡ number →
+    ensures { (code : List Instr) (m k : Cpu) → m.regs 0 ≡ number →
         let s = setting_of store.now locks.now code seat in
         IfSome result (λ r. after_read s 7 m k ≡ Some (answered Victim r 0 k)) }
 {
@@ -162,7 +161,7 @@ fn frame<B: Policy>(number: u32, seat: Seat, store: &Store<B>, locks: &LockTable
 #[inline]
 fn block<B: Policy>(f: u32, seat: Seat, store: &Store<B>, locks: &LockTable) -> Option<u32>
     requires { lives (queue_of store.now) seat.owner ≡ true }
-    ensures { (code : List Code) (m k : Cpu) → m.regs 0 ≡ f →
+    ensures { (code : List Instr) (m k : Cpu) → m.regs 0 ≡ f →
         let s = setting_of store.now locks.now code seat in
         IfSome result (λ r. after_read s 8 m k ≡ Some (answered Victim r 0 k)) }
 {
@@ -186,7 +185,7 @@ fn read<B: Policy>(
     locks: &LockTable,
 ) -> Option<u32>
     requires { lives (queue_of store.now) seat.owner ≡ true }
-    ensures { (code : List Code) (m k : Cpu) → m.regs ≡ by_place cpu.now.regs →
+    ensures { (code : List Instr) (m k : Cpu) → m.regs ≡ by_place cpu.now.regs →
         let s = setting_of store.now locks.now code seat in
         IfSome result (λ r. after_read s id m k ≡ Some (answered Victim r 0 k)) }
 {

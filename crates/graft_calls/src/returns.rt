@@ -2,36 +2,32 @@
 
 ghost use Rattle.std.specs.Prelude.{◌≡◌, ◌≢◌, ℕ, suc, ◌<◌, ◌≤◌, ◌∷◌, [], List, length, slice_index};
 ghost use Rattle.kernel_model.specs.declared.Held.TheVariants.{Free};
-ghost use Rattle.kernel_model.specs.declared.Object.{Object as Objects};
-ghost use Rattle.kernel_model.specs.declared.QueueRow.{QueueRow as Waiting};
+ghost use Rattle.kernel_model.specs.declared.Object.{Object};
+ghost use Rattle.kernel_model.specs.declared.QueueRow.{QueueRow};
 ghost use Rattle.kernel_model.specs.GraftStep.{completed, after_answer, after_return, first_registers};
 ghost use Rattle.kernel_model.specs.Levels.{answered, image_of, keeps_in};
 ghost use Rattle.kernel_model.specs.Locks.{LockTable as Table, merge_level, release_from};
-ghost use Rattle.kernel_model.specs.Objects.{Objects as State, Accounts as Funds, Things};
+ghost use Rattle.kernel_model.specs.Objects.{Objects, Accounts, Things};
 ghost use Rattle.kernel_model.specs.Policies.{kind_of, valid};
 ghost use Rattle.kernel_model.specs.Sound.{ImagesAreLoaded};
 ghost use Rattle.kernel_model.specs.World.{ImageTable};
 ghost use Rattle.kernel_state.specs.Stores.{world_of_store, objects_of};
-ghost use Rattle.lock_table.specs.Masks.{held};
-ghost use Rattle.undo_calls.specs.UndoLevels.{Logged, merged};
-ghost use Rattle.graft_machine.specs.Cpu.{machine_of};
-ghost use Rattle.graft_loader.specs.Slots.{table_of};
+ghost use Rattle.graft_levels.specs.Masks.{held};
+ghost use Rattle.graft_levels.specs.UndoLevels.{Logged, merged};
+ghost use Rattle.graft_levels.specs.Cpu.{machine_of};
+ghost use Rattle.graft_levels.specs.Slots.{table_of};
 ghost use Rattle.graft_levels.specs.Chains.{came, HasAnswer, level_on, outer_on, levels_in, levels_taken};
 ghost use Rattle.graft_levels.specs.Calls.{AreSound, AreInside, IsTaken};
-ghost use Rattle.graft_levels.specs.Moments.{Comes, moment};
+ghost use Rattle.graft_levels.specs.Moments.{Comes, chain_moment};
 
-use graft_accounts::GraftPoint;
 use graft_levels::answers::answer;
 use graft_levels::charges::is_record_spent;
 use graft_levels::{
-    Chain, GraftLevel, Innermost, Levels, base_of, drop_innermost, is_valid, keep, keeps,
+    Chain, GraftLevel, Holder, Images, Innermost, Levels, LockTable, Machine, base_of,
+    drop_innermost, is_valid, keep, keeps,
 };
-use graft_loader::Images;
-use graft_machine::Machine;
-use graft_points::Policy;
 use kernel_model::{Cause, Micro};
-use kernel_state::Store;
-use lock_table::{Holder, LockTable};
+use kernel_state::{GraftPoint, Policy, Store};
 
 /// The answer of a level: r0 to r3.
 fn registers(machine: &Machine) -> [u32; 4]
@@ -59,9 +55,9 @@ fn join(level: GraftLevel, asker: GraftLevel, levels: &mut Levels, p: u8, locks:
         ∷ outer_on q ram t levels.old log w }
     ensures locks { held locks.new ≡ merge_level p (suc (length levels.old)) (held locks.old) }
     ensures count { length levels.new ≡ suc (length levels.old) }
-    ensures sound { (queue : List Waiting) → AreSound queue (asker ∷ levels.old) →
+    ensures sound { (queue : List QueueRow) → AreSound queue (asker ∷ levels.old) →
         AreSound queue levels.new }
-    ensures inside { (images : ImageTable) (a : Funds) (q : ℕ) →
+    ensures inside { (images : ImageTable) (a : Accounts) (q : ℕ) →
         AreInside images a q (asker ∷ levels.old) → AreInside images a q levels.new }
 {
     let mut asker = asker;
@@ -86,7 +82,7 @@ fn complete(inner: Innermost, chain: &mut Chain, locks: &mut LockTable) -> Micro
     requires few { length chain.old.levels < 4 }
     requires as_many { length chain.old.undo ≡ suc (length chain.old.levels) }
     requires process { inner.process < 16 }
-    ensures step { (w : State) (ram : List ℕ) →
+    ensures step { (w : Objects) (ram : List ℕ) →
         let t = held locks.old in
         came (completed w
         (level_on inner.process ram t inner.level chain.old.levels chain.old.undo w.things)
@@ -103,14 +99,14 @@ fn complete(inner: Innermost, chain: &mut Chain, locks: &mut LockTable) -> Micro
         chain.old.levels ≡ [] }
     ensures log { chain.new.undo ≡ merged chain.old.undo }
     ensures count { length chain.new.levels ≡ length chain.old.levels }
-    ensures unheld { (d : ℕ) (o : Objects) → length chain.old.levels ≤ d →
-        ((e : ℕ) (a : Objects) → suc (length chain.old.levels) ≤ e →
+    ensures unheld { (d : ℕ) (o : Object) → length chain.old.levels ≤ d →
+        ((e : ℕ) (a : Object) → suc (length chain.old.levels) ≤ e →
         held locks.old inner.process e a ≡ Free) →
         held locks.new inner.process d o ≡ Free }
     ensures others { (q d : ℕ) → q ≢ inner.process → held locks.new q d ≡ held locks.old q d }
-    ensures sound { (queue : List Waiting) → AreSound queue chain.old.levels →
+    ensures sound { (queue : List QueueRow) → AreSound queue chain.old.levels →
         AreSound queue chain.new.levels }
-    ensures inside { (images : ImageTable) (a : Funds) (q : ℕ) →
+    ensures inside { (images : ImageTable) (a : Accounts) (q : ℕ) →
         AreInside images a q chain.old.levels → AreInside images a q chain.new.levels }
 {
     chain.undo.commit_level();
@@ -141,8 +137,8 @@ fn accept<B: Policy>(
     images: &Images,
 ) -> Micro
     requires placed { IsTaken store.old locks.old inner chain.old }
-    ensures comes { Comes inner (moment store.old locks.old chain.old)
-        (moment store.new locks.new chain.new) result
+    ensures comes { Comes inner (chain_moment store.old locks.old chain.old)
+        (chain_moment store.new locks.new chain.new) result
         (λ v w l ls. after_answer v w l ls
         (keeps_in (image_of (table_of images.now) (w.accounts.graft l.owner l.point)))) }
     ensures answer { HasAnswer result store.new.ram inner.process
@@ -176,8 +172,8 @@ pub(crate) fn offer<B: Policy>(
     images: &Images,
 ) -> Micro
     requires placed { IsTaken store.old locks.old inner chain.old }
-    ensures comes { Comes inner (moment store.old locks.old chain.old)
-        (moment store.new locks.new chain.new) result
+    ensures comes { Comes inner (chain_moment store.old locks.old chain.old)
+        (chain_moment store.new locks.new chain.new) result
         (λ v w l ls. after_return v (table_of images.now) w l ls
         (valid w.things l.owner l.point l.args (l.machine.regs 0) (l.machine.regs 1))) }
     ensures answer { HasAnswer result store.new.ram inner.process

@@ -2,7 +2,7 @@
 
 ghost use Rattle.std.specs.Prelude.{◌<◌};
 
-use lock_table::Holder;
+use graft_levels::Holder;
 
 /// Where a level stands, and whose it is.
 #[derive(Clone, Copy)]

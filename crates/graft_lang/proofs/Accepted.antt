@@ -6,26 +6,27 @@ use Rattle.std.proofs.Common.{arith, refl, subst, sym, ap}
 use Rattle.std.proofs.lemmas.Bool.Decides.{nat_tests}
 use Rattle.std.proofs.lemmas.List.{length-append}
 use Rattle.std.proofs.lemmas.List.Quantifiers.{position-Some}
-use Rattle.kernel_model.specs.World.{same_bytes}
-use Rattle.kernel_model.specs.Bytes as bytes
-use Rattle.kernel_model.specs.Assembler.{callables, callable_id, is_label}
-use Rattle.kernel_model.specs.declared.language.LangKind.{LangKind}
-use Rattle.kernel_model.specs.declared.language.LangKind.TheVariants.{NoProgram, TooManyTokens}
-use Rattle.kernel_model.specs.declared.language.Operator.{Operator}
-use Rattle.kernel_model.specs.declared.language.Symbol.{Symbol}
-use Rattle.kernel_model.specs.declared.language.Symbol.TheVariants.{Else, Semicolon, OpenBrace, CloseBrace}
-use Rattle.kernel_model.specs.declared.language.Symbol.TheVariants.{CloseParenthesis, Comma}
-use Rattle.kernel_model.specs.declared.language.Goal.{Goal}
-use Rattle.kernel_model.specs.declared.language.Goal.TheVariants.{EndOfAssignment}
-use Rattle.kernel_model.specs.LanguageTokens.{Token, Number, Variable, Callable, Infix, Mark, token_of, by_symbol}
-use Rattle.kernel_model.specs.LanguageTokens.{by_operator, by_callable, by_number, symbol_of, operator_of, same_symbol}
-use Rattle.kernel_model.specs.LanguageWords.{Word, words, last_line}
-use Rattle.kernel_model.specs.LanguageGrammar as g
-use Rattle.kernel_model.specs.LanguageGrammar.{follow, follow_awaited, is_met}
-use Rattle.kernel_model.specs.LanguageReading.{Reading, Syntax, LineFault, first_reading, with_name, names_after}
-use Rattle.kernel_model.specs.LanguageReading.{with_token, read_on, checked, followed, fault_of, read_token, read_by}
-use Rattle.kernel_model.specs.LanguageReading.{read_words, ended, read, refused, or_first, number_of}
-use Rattle.kernel_model.specs.LanguageMeaning as l
+use Rattle.graft_texts.specs.World.{same_bytes}
+use Rattle.graft_texts.specs.Bytes as bytes
+use Rattle.graft_texts.specs.Callables.{callables, callable_id}
+use Rattle.graft_texts.specs.Bytes.{is_label}
+use Rattle.graft_texts.specs.declared.language.LangKind.{LangKind}
+use Rattle.graft_texts.specs.declared.language.LangKind.TheVariants.{NoProgram, TooManyTokens}
+use Rattle.graft_texts.specs.declared.language.Operator.{Operator}
+use Rattle.graft_texts.specs.declared.language.Symbol.{Symbol}
+use Rattle.graft_texts.specs.declared.language.Symbol.TheVariants.{Else, Semicolon, OpenBrace, CloseBrace}
+use Rattle.graft_texts.specs.declared.language.Symbol.TheVariants.{CloseParenthesis, Comma}
+use Rattle.graft_texts.specs.declared.language.Goal.{Goal}
+use Rattle.graft_texts.specs.declared.language.Goal.TheVariants.{EndOfAssignment}
+use Rattle.graft_texts.specs.LanguageTokens.{Token, Number, Variable, Callable, Infix, Mark, token_of, by_symbol}
+use Rattle.graft_texts.specs.LanguageTokens.{by_operator, by_callable, by_number, symbol_of, operator_of, same_symbol}
+use Rattle.graft_texts.specs.LanguageWords.{Word, words, last_line}
+use Rattle.graft_texts.specs.LanguageGrammar as g
+use Rattle.graft_texts.specs.LanguageGrammar.{follow, follow_awaited, is_met}
+use Rattle.graft_texts.specs.LanguageReading.{Reading, Syntax, LineFault, first_reading, with_name, names_after}
+use Rattle.graft_texts.specs.LanguageReading.{with_token, read_on, checked, followed, fault_of, read_token, read_by}
+use Rattle.graft_texts.specs.LanguageReading.{read_words, ended, read, refused, or_first, number_of}
+use Rattle.graft_texts.specs.LanguageMeaning as l
 use Rattle.graft_lang.specs.Placing.{Fits}
 use Rattle.graft_lang.specs.Going.{AllFit, FitsProgram}
 use Rattle.graft_lang.specs.Sizes.{expression_tokens, argument_tokens, program_tokens, semicolons, CallsFit}
@@ -50,7 +51,8 @@ same_token t u h fits = let e : t ≡ u = cc in subst TokenFits e fits
 
 number_small : (word : List ℕ) (n : ℕ) → bytes.number_of word ≡ Some n → n < 2 ^ 32
 number_small word n h =
-    by (nat_le 1 (length word) && nat_le (length word) 10 && list_all bytes.is_digit word) (nat_lt (bytes.digits_value word) (2 ^ 32)) (bytes.digits_value word)
+    by (nat_le 1 (length word) && nat_le (length word) 10 && list_all bytes.is_digit word)
+    (nat_lt (bytes.digits_value word) (2 ^ 32)) (bytes.digits_value word)
     (λ e. below (bytes.digits_value word) e) h
   where
     below : (v : ℕ) → nat_lt v (2 ^ 32) ≡ true → v < 2 ^ 32
@@ -113,7 +115,8 @@ with_name_more : (name : List ℕ) (names : List (List ℕ)) → length (with_na
 with_name_more name [] = omega arith
 with_name_more name (n ∷ names) = by (same_bytes name n) (with_name_more name names)
   where
-    by : (b : Bool) → length (with_name name names) ≤ suc (length names) → length (cond b (n ∷ names) (n ∷ with_name name names)) ≤ suc (suc (length names))
+    by : (b : Bool) → length (with_name name names) ≤ suc (length names) →
+        length (cond b (n ∷ names) (n ∷ with_name name names)) ≤ suc (suc (length names))
     by true h = omega arith
     by false h = omega (arith, h)
 
@@ -121,7 +124,8 @@ with_name_least : (name : List ℕ) (names : List (List ℕ)) → length names �
 with_name_least name [] = omega arith
 with_name_least name (n ∷ names) = by (same_bytes name n) (with_name_least name names)
   where
-    by : (b : Bool) → length names ≤ length (with_name name names) → suc (length names) ≤ length (cond b (n ∷ names) (n ∷ with_name name names))
+    by : (b : Bool) → length names ≤ length (with_name name names) →
+        suc (length names) ≤ length (cond b (n ∷ names) (n ∷ with_name name names))
     by true h = omega arith
     by false h = omega (arith, h)
 
@@ -156,7 +160,8 @@ record Kept (r : Reading) : Type 0 where
   least : 4 ≤ length r.names
   few : length r.tokens ≤ 120 → length r.names ≤ 4 + ends_in r.tokens
 
-kept_on : (r : Reading) (t : Token) (goals : List Goal) → TokenFits t → Learns t r.names (names_after r.goals r.assigned r.names) → Kept r
+kept_on : (r : Reading) (t : Token) (goals : List Goal) → TokenFits t →
+    Learns t r.names (names_after r.goals r.assigned r.names) → Kept r
     → Kept (read_on r t goals)
 kept_on r t goals fits learnt kept = by (nat_lt 120 (length r.tokens)) refl
   where
@@ -169,7 +174,8 @@ kept_on r t goals fits learnt kept = by (nat_lt 120 (length r.tokens)) refl
     KeptBy : List Token → Type 0
     KeptBy ts = AllTokens ts × (length ts ≤ 120 → length (names_after r.goals r.assigned r.names) ≤ 4 + ends_in ts)
 
-    whole : AllTokens (with_token r.tokens t) → (length (with_token r.tokens t) ≤ 120 → length (names_after r.goals r.assigned r.names) ≤ 4 + ends_in (with_token r.tokens t))
+    whole : AllTokens (with_token r.tokens t) → (length (with_token r.tokens t) ≤ 120 →
+        length (names_after r.goals r.assigned r.names) ≤ 4 + ends_in (with_token r.tokens t))
         → Kept (read_on r t goals)
     whole a b = record { fits = a; least = omega (arith, kept.least, learnt.least); few = b }
 
@@ -186,7 +192,8 @@ kept_on r t goals fits learnt kept = by (nat_lt 120 (length r.tokens)) refl
         let long = length-append r.tokens (t ∷ []) in
         let before = kept.few (omega (arith, short, long)) in
         let sum = ends_in-append r.tokens (t ∷ []) in
-        subst (λ ts. length (names_after r.goals r.assigned r.names) ≤ 4 + ends_in ts) (sym is) (omega (arith, before, sum, learnt.more)))
+        subst (λ ts. length (names_after r.goals r.assigned r.names) ≤ 4 + ends_in ts) (sym is)
+        (omega (arith, before, sum, learnt.more)))
 
 kept_token : (r s : Reading) (t : Token) → read_token r t ≡ Ok s → TokenFits t → Kept r → Kept s
 kept_token r s t h fits kept = by (follow r.goals t) refl h
@@ -206,13 +213,19 @@ kept_words [] r s h kept = let is : r ≡ s = cc in subst Kept is kept
 kept_words (w ∷ ws) r s h kept = by (token_of w.bytes) refl h (λ u k. kept_words ws u s k)
   where
     inner : (t : Token) → token_of w.bytes ≡ Some t → (f : Result Reading LangKind) → read_token r t ≡ f
-        → elim f as (λ _. Result Reading LineFault) [ Err kind ↦ Err (record { line = w.line; kind = kind }) | Ok u ↦ read_words u ws ] ≡ Ok s
+        → elim f as (λ _. Result Reading LineFault) [
+          | Err kind ↦ Err (record { line = w.line; kind = kind })
+          | Ok u ↦ read_words u ws
+        ] ≡ Ok s
         → ((u : Reading) → read_words u ws ≡ Ok s → Kept u → Kept s) → Kept s
     inner t e (Err kind) is k later = absurd cc
     inner t e (Ok u) is k later = later u k (kept_token r u t is (token_fits w.bytes t e) kept)
 
     by : (o : Option Token) → token_of w.bytes ≡ o
-        → elim (read_by r o) as (λ _. Result Reading LineFault) [ Err kind ↦ Err (record { line = w.line; kind = kind }) | Ok u ↦ read_words u ws ] ≡ Ok s
+        → elim (read_by r o) as (λ _. Result Reading LineFault) [
+          | Err kind ↦ Err (record { line = w.line; kind = kind })
+          | Ok u ↦ read_words u ws
+        ] ≡ Ok s
         → ((u : Reading) → read_words u ws ≡ Ok s → Kept u → Kept s) → Kept s
     by None e k later = absurd cc
     by (Some t) e k later = inner t e (read_token r t) refl k later
@@ -245,9 +258,12 @@ accepted text s h = by (read_words first_reading (words text)) refl h
         below : (n : ℕ) → nat_lt 120 n ≡ false → n ≤ 120
         below n e = grind (arith, nat_tests, e)
 
-    by : (f : Result Reading LineFault) → read_words first_reading (words text) ≡ f → ended (last_line text) f ≡ Ok s → IsAccepted s
+    by : (f : Result Reading LineFault) → read_words first_reading (words text) ≡ f →
+        ended (last_line text) f ≡ Ok s → IsAccepted s
     by (Err fault) e k = absurd cc
-    by (Ok r) e k = at_end r (kept_words (words text) first_reading r e first) (is_met r.goals) (nat_lt 120 (length r.tokens)) refl k
+    by (Ok r) e k =
+        at_end r (kept_words (words text) first_reading r e first) (is_met r.goals)
+        (nat_lt 120 (length r.tokens)) refl k
 
 -- ---- programs of such tokens
 
@@ -263,18 +279,23 @@ number_within names name least = by (position (same_bytes name) names) refl
     by None e = omega (arith, least)
     by (Some i) e = (position-Some (same_bytes name) names i [] e).0
 
-expression_fits : (names : List (List ℕ)) (e : g.Expression) (behind : List Token) (top : ℕ) → 4 ≤ length names → length names ≤ top
+expression_fits : (names : List (List ℕ)) (e : g.Expression) (behind : List Token) (top : ℕ) →
+    4 ≤ length names → length names ≤ top
     → top + expression_tokens (l.numbered_expression names e) ≤ 1024 → AllTokens (g.spelled_expression e behind)
     → Fits (length names) top (l.numbered_expression names e) × AllTokens behind
 expression_fits names (g.Literal n) behind top least low room h = (h.0, h.1)
 expression_fits names (g.Named name) behind top least low room h =
     let w = number_within names name least in ((w, low, omega (arith, w, low, room)), h.1)
 expression_fits names (g.Binary a op b) behind top least low room h =
-    let left = expression_fits names a (Infix op ∷ g.spelled_expression b (Mark CloseParenthesis ∷ behind)) top least low (omega (arith, room)) h.1 in
-    let right = expression_fits names b (Mark CloseParenthesis ∷ behind) (suc top) least (omega (arith, low)) (omega (arith, room)) left.1.1 in
+    let left = expression_fits names a
+    (Infix op ∷ g.spelled_expression b (Mark CloseParenthesis ∷ behind)) top least low
+    (omega (arith, room)) h.1 in
+    let right = expression_fits names b (Mark CloseParenthesis ∷ behind) (suc top) least
+    (omega (arith, low)) (omega (arith, room)) left.1.1 in
     ((omega (arith, room), low, left.0, right.0), right.1.1)
 
-more_fits : (names : List (List ℕ)) (es : List g.Expression) (behind : List Token) (top : ℕ) → 4 ≤ length names → length names ≤ top
+more_fits : (names : List (List ℕ)) (es : List g.Expression) (behind : List Token) (top : ℕ) →
+    4 ≤ length names → length names ≤ top
     → top + argument_tokens (map (l.numbered_expression names) es) ≤ 1024 → AllTokens (g.spelled_more es behind)
     → AllFit (length names) top (map (l.numbered_expression names) es) × AllTokens behind
 more_fits names [] behind top least low room h = (tt, h.1)
@@ -284,7 +305,8 @@ more_fits names (e ∷ es) behind top least low room h =
     let rest = more_fits names es behind (suc top) least (omega (arith, low)) (omega (arith, room, one)) first.1 in
     ((omega (arith, room, one), first.0, rest.0), rest.1)
 
-arguments_fit : (names : List (List ℕ)) (es : List g.Expression) (behind : List Token) (top : ℕ) → 4 ≤ length names → length names ≤ top
+arguments_fit : (names : List (List ℕ)) (es : List g.Expression) (behind : List Token) (top : ℕ) →
+    4 ≤ length names → length names ≤ top
     → top + argument_tokens (map (l.numbered_expression names) es) ≤ 1024 → AllTokens (g.spelled_arguments es behind)
     → AllFit (length names) top (map (l.numbered_expression names) es) × AllTokens behind
 arguments_fit names [] behind top least low room h = (tt, h.1)
@@ -303,37 +325,52 @@ program_fits : (names : List (List ℕ)) (p : g.Program) (behind : List Token) �
     → FitsProgram (length names) (l.numbered names p) × CallsFit (l.numbered names p) × AllTokens behind
 program_fits names g.Done behind least room h = (tt, tt, h)
 program_fits names (g.Assigns name e p) behind least room h =
-    let first = expression_fits names e (Mark Semicolon ∷ g.spelled_statements p behind) (length names) least (omega arith) (omega (arith, room)) h.1.1 in
+    let first = expression_fits names e (Mark Semicolon ∷ g.spelled_statements p behind)
+    (length names) least (omega arith) (omega (arith, room)) h.1.1 in
     let rest = program_fits names p behind least (omega (arith, room)) first.1.1 in
     ((number_within names name least, omega (arith, room), first.0, rest.0), rest.1, rest.2)
 program_fits names (g.Calls name id es p) behind least room h =
-    let first = arguments_fit names es (Mark Semicolon ∷ g.spelled_statements p behind) (length names) least (omega arith) (omega (arith, room)) h.1.1.1.1 in
+    let first = arguments_fit names es (Mark Semicolon ∷ g.spelled_statements p behind)
+    (length names) least (omega arith) (omega (arith, room)) h.1.1.1.1 in
     let rest = program_fits names p behind least (omega (arith, room)) first.1.1 in
     let many = as_many_tokens (map (l.numbered_expression names) es) in
     ((number_within names name least, omega (arith, room, many), first.0, rest.0), (h.1.1.0, rest.1), rest.2)
 program_fits names (g.When e body p) behind least room h =
-    let first = expression_fits names e (Mark OpenBrace ∷ g.spelled_statements body (Mark CloseBrace ∷ g.spelled_statements p behind)) (length names) least (omega arith) (omega (arith, room)) h.1 in
-    let inner = program_fits names body (Mark CloseBrace ∷ g.spelled_statements p behind) least (omega (arith, room)) first.1.1 in
+    let first = expression_fits names e (Mark OpenBrace ∷ g.spelled_statements body
+    (Mark CloseBrace ∷ g.spelled_statements p behind)) (length names) least (omega arith)
+    (omega (arith, room)) h.1 in
+    let inner = program_fits names body (Mark CloseBrace ∷ g.spelled_statements p behind) least
+    (omega (arith, room)) first.1.1 in
     let rest = program_fits names p behind least (omega (arith, room)) inner.2.1 in
     ((first.0, inner.0, rest.0), (inner.1, rest.1), rest.2)
 program_fits names (g.Either e body other p) behind least room h =
-    let last = Mark Else ∷ Mark OpenBrace ∷ g.spelled_statements other (Mark CloseBrace ∷ g.spelled_statements p behind) in
-    let first = expression_fits names e (Mark OpenBrace ∷ g.spelled_statements body (Mark CloseBrace ∷ last)) (length names) least (omega arith) (omega (arith, room)) h.1 in
+    let last = Mark Else ∷ Mark OpenBrace ∷ g.spelled_statements other
+    (Mark CloseBrace ∷ g.spelled_statements p behind) in
+    let first = expression_fits names e
+    (Mark OpenBrace ∷ g.spelled_statements body (Mark CloseBrace ∷ last)) (length names) least
+    (omega arith) (omega (arith, room)) h.1 in
     let inner = program_fits names body (Mark CloseBrace ∷ last) least (omega (arith, room)) first.1.1 in
-    let outer = program_fits names other (Mark CloseBrace ∷ g.spelled_statements p behind) least (omega (arith, room)) inner.2.1.1.1 in
+    let outer = program_fits names other (Mark CloseBrace ∷ g.spelled_statements p behind) least
+    (omega (arith, room)) inner.2.1.1.1 in
     let rest = program_fits names p behind least (omega (arith, room)) outer.2.1 in
     ((first.0, inner.0, outer.0, rest.0), (inner.1, outer.1, rest.1), rest.2)
 program_fits names (g.Loops e body p) behind least room h =
-    let first = expression_fits names e (Mark OpenBrace ∷ g.spelled_statements body (Mark CloseBrace ∷ g.spelled_statements p behind)) (length names) least (omega arith) (omega (arith, room)) h.1 in
-    let inner = program_fits names body (Mark CloseBrace ∷ g.spelled_statements p behind) least (omega (arith, room)) first.1.1 in
+    let first = expression_fits names e (Mark OpenBrace ∷ g.spelled_statements body
+    (Mark CloseBrace ∷ g.spelled_statements p behind)) (length names) least (omega arith)
+    (omega (arith, room)) h.1 in
+    let inner = program_fits names body (Mark CloseBrace ∷ g.spelled_statements p behind) least
+    (omega (arith, room)) first.1.1 in
     let rest = program_fits names p behind least (omega (arith, room)) inner.2.1 in
     ((first.0, inner.0, rest.0), (inner.1, rest.1), rest.2)
 program_fits names (g.Traps code p) behind least room h =
     let rest = program_fits names p behind least (omega (arith, room)) h.1.1.1 in (rest.0, rest.1, rest.2)
 program_fits names (g.Answers e f p) behind least room h =
     let one = tokens_positive (l.numbered_expression names e) in
-    let first = expression_fits names e (Mark Comma ∷ g.spelled_expression f (Mark Semicolon ∷ g.spelled_statements p behind)) (length names) least (omega arith) (omega (arith, room)) h.1 in
-    let second = expression_fits names f (Mark Semicolon ∷ g.spelled_statements p behind) (suc (length names)) least (omega arith) (omega (arith, room, one)) first.1.1 in
+    let first = expression_fits names e
+    (Mark Comma ∷ g.spelled_expression f (Mark Semicolon ∷ g.spelled_statements p behind))
+    (length names) least (omega arith) (omega (arith, room)) h.1 in
+    let second = expression_fits names f (Mark Semicolon ∷ g.spelled_statements p behind)
+    (suc (length names)) least (omega arith) (omega (arith, room, one)) first.1.1 in
     let rest = program_fits names p behind least (omega (arith, room)) second.1.1 in
     ((omega (arith, room, one), first.0, second.0, rest.0), rest.1, rest.2)
 
@@ -351,7 +388,10 @@ expression_counts names (g.Named name) us = record { tokens_are = omega arith; e
 expression_counts names (g.Binary a op b) us =
     let right = expression_counts names b (Mark CloseParenthesis ∷ us) in
     let left = expression_counts names a (Infix op ∷ g.spelled_expression b (Mark CloseParenthesis ∷ us)) in
-    record { tokens_are = omega (arith, left.tokens_are, right.tokens_are); ends_are = omega (arith, left.ends_are, right.ends_are) }
+    record {
+      tokens_are = omega (arith, left.tokens_are, right.tokens_are);
+      ends_are = omega (arith, left.ends_are, right.ends_are);
+    }
 
 more_counts : (names : List (List ℕ)) (es : List g.Expression) (us : List Token)
     → Counts (argument_tokens (map (l.numbered_expression names) es) + 1) 0 (g.spelled_more es us) us
@@ -359,7 +399,10 @@ more_counts names [] us = record { tokens_are = omega arith; ends_are = omega ar
 more_counts names (e ∷ es) us =
     let rest = more_counts names es us in
     let first = expression_counts names e (g.spelled_more es us) in
-    record { tokens_are = omega (arith, first.tokens_are, rest.tokens_are); ends_are = omega (arith, first.ends_are, rest.ends_are) }
+    record {
+      tokens_are = omega (arith, first.tokens_are, rest.tokens_are);
+      ends_are = omega (arith, first.ends_are, rest.ends_are);
+    }
 
 arguments_count : (names : List (List ℕ)) (es : List g.Expression) (us : List Token)
     → Counts (argument_tokens (map (l.numbered_expression names) es) + 1) 0 (g.spelled_arguments es us) us
@@ -367,7 +410,10 @@ arguments_count names [] us = record { tokens_are = omega arith; ends_are = omeg
 arguments_count names (e ∷ es) us =
     let rest = more_counts names es us in
     let first = expression_counts names e (g.spelled_more es us) in
-    record { tokens_are = omega (arith, first.tokens_are, rest.tokens_are); ends_are = omega (arith, first.ends_are, rest.ends_are) }
+    record {
+      tokens_are = omega (arith, first.tokens_are, rest.tokens_are);
+      ends_are = omega (arith, first.ends_are, rest.ends_are);
+    }
 
 pub program_counts : (names : List (List ℕ)) (p : g.Program) (us : List Token)
     → Counts (program_tokens (l.numbered names p)) (semicolons (l.numbered names p)) (g.spelled_statements p us) us
@@ -375,15 +421,22 @@ program_counts names g.Done us = record { tokens_are = omega arith; ends_are = o
 program_counts names (g.Assigns name e p) us =
     let rest = program_counts names p us in
     let first = expression_counts names e (Mark Semicolon ∷ g.spelled_statements p us) in
-    record { tokens_are = omega (arith, first.tokens_are, rest.tokens_are); ends_are = omega (arith, first.ends_are, rest.ends_are) }
+    record {
+      tokens_are = omega (arith, first.tokens_are, rest.tokens_are);
+      ends_are = omega (arith, first.ends_are, rest.ends_are);
+    }
 program_counts names (g.Calls name id es p) us =
     let rest = program_counts names p us in
     let first = arguments_count names es (Mark Semicolon ∷ g.spelled_statements p us) in
-    record { tokens_are = omega (arith, first.tokens_are, rest.tokens_are); ends_are = omega (arith, first.ends_are, rest.ends_are) }
+    record {
+      tokens_are = omega (arith, first.tokens_are, rest.tokens_are);
+      ends_are = omega (arith, first.ends_are, rest.ends_are);
+    }
 program_counts names (g.When e body p) us =
     let rest = program_counts names p us in
     let inner = program_counts names body (Mark CloseBrace ∷ g.spelled_statements p us) in
-    let first = expression_counts names e (Mark OpenBrace ∷ g.spelled_statements body (Mark CloseBrace ∷ g.spelled_statements p us)) in
+    let first = expression_counts names e (Mark OpenBrace ∷ g.spelled_statements body
+    (Mark CloseBrace ∷ g.spelled_statements p us)) in
     record {
       tokens_are = omega (arith, first.tokens_are, inner.tokens_are, rest.tokens_are);
       ends_are = omega (arith, first.ends_are, inner.ends_are, rest.ends_are);
@@ -401,7 +454,8 @@ program_counts names (g.Either e body other p) us =
 program_counts names (g.Loops e body p) us =
     let rest = program_counts names p us in
     let inner = program_counts names body (Mark CloseBrace ∷ g.spelled_statements p us) in
-    let first = expression_counts names e (Mark OpenBrace ∷ g.spelled_statements body (Mark CloseBrace ∷ g.spelled_statements p us)) in
+    let first = expression_counts names e (Mark OpenBrace ∷ g.spelled_statements body
+    (Mark CloseBrace ∷ g.spelled_statements p us)) in
     record {
       tokens_are = omega (arith, first.tokens_are, inner.tokens_are, rest.tokens_are);
       ends_are = omega (arith, first.ends_are, inner.ends_are, rest.ends_are);
@@ -412,7 +466,8 @@ program_counts names (g.Traps code p) us =
 program_counts names (g.Answers e f p) us =
     let rest = program_counts names p us in
     let second = expression_counts names f (Mark Semicolon ∷ g.spelled_statements p us) in
-    let first = expression_counts names e (Mark Comma ∷ g.spelled_expression f (Mark Semicolon ∷ g.spelled_statements p us)) in
+    let first = expression_counts names e
+    (Mark Comma ∷ g.spelled_expression f (Mark Semicolon ∷ g.spelled_statements p us)) in
     record {
       tokens_are = omega (arith, first.tokens_are, second.tokens_are, rest.tokens_are);
       ends_are = omega (arith, first.ends_are, second.ends_are, rest.ends_are);
@@ -440,7 +495,8 @@ accepted_programs_run text s p h is =
     let few : program_tokens q ≤ 120 = omega (arith, counts.tokens_are, long, a.short) in
     let variables : length s.names ≤ 4 + semicolons q = omega (arith, counts.ends_are, ends, a.few) in
     let low = few_ends q in
-    let fits = program_fits s.names p [] a.least (omega (arith, few, variables, low)) (subst AllTokens (sym is) a.fits) in (
+    let fits = program_fits s.names p [] a.least
+    (omega (arith, few, variables, low)) (subst AllTokens (sym is) a.fits) in (
       programs_run (length s.names) q a.least (omega (arith, few, variables, low)) fits.0,
       programs_are_boxed (length s.names) q a.least variables few fits.1,
     )

@@ -4,16 +4,16 @@ use Rattle.std.specs.Prelude.{nat_le, List, [], ◌∷◌, ◌++◌, length, Opt
 use Rattle.std.proofs.Common.{arith, refl, ap, ◌∙◌}
 use Rattle.std.proofs.lemmas.Bool.Decides.{nat_tests}
 use Rattle.std.proofs.lemmas.List.{length-append}
-use Rattle.kernel_model.specs.declared.Instr.{Instr}
-use Rattle.kernel_model.specs.declared.Op.TheVariants.{Li, Mov, Ldw, Stw, Jmp, Jz, Call, Ret}
-use Rattle.kernel_model.specs.Instructions.{names_register}
-use Rattle.kernel_model.specs.Boxed.{instr, is_jump, is_direct_call, ends_well, RewriteFault, NamesReserved, JumpsOut}
-use Rattle.kernel_model.specs.Boxed.{CallsUnknown, NoEnd, TooLong, boxed_code, boxed_place, rewrite_fault_at}
-use Rattle.kernel_model.specs.Boxed.{rewrite_fault_from}
-use Rattle.kernel_model.specs.declared.language.Operator.{Operator}
-use Rattle.kernel_model.specs.declared.language.Operator.TheVariants as o
-use Rattle.kernel_model.specs.LanguageMeaning.{Expression, Number, Variable, Binary, Program, Done, Assigns, Calls}
-use Rattle.kernel_model.specs.LanguageMeaning.{When, Either, Loops, Traps, Answers}
+use Rattle.graft_texts.specs.declared.Instr.{Instr}
+use Rattle.graft_texts.specs.declared.Op.TheVariants.{Li, Mov, Ldw, Stw, Jmp, Jz, Call, Ret}
+use Rattle.graft_texts.specs.Instructions.{names_register}
+use Rattle.graft_texts.specs.Boxed.{instr, is_jump, is_direct_call, ends_well, RewriteFault, NamesReserved, JumpsOut}
+use Rattle.graft_texts.specs.Boxed.{CallsUnknown, NoEnd, TooLong, boxed_code, boxed_place, rewrite_fault_at}
+use Rattle.graft_texts.specs.Boxed.{rewrite_fault_from}
+use Rattle.graft_texts.specs.declared.language.Operator.{Operator}
+use Rattle.graft_texts.specs.declared.language.Operator.TheVariants as o
+use Rattle.graft_texts.specs.LanguageMeaning.{Expression, Number, Variable, Binary, Program, Done, Assigns, Calls}
+use Rattle.graft_texts.specs.LanguageMeaning.{When, Either, Loops, Traps, Answers}
 use Rattle.graft_lang.specs.Code.{fetches, puts, operator_code, expression_code, arguments_code, registers_code}
 use Rattle.graft_lang.specs.Code.{statements_code, zeros_code, prologue, epilogue, program_code}
 use Rattle.graft_lang.specs.Sizes.{CallsFit, ProgramsAreBoxed}
@@ -44,13 +44,15 @@ known id h = grind (arith, nat_tests)
 fetches_good : (n reg slot : ℕ) → reg < 14 → AllGood n (fetches reg slot)
 fetches_good n reg slot h = ((refl, refl, refl), ((named reg h, refl, refl), tt))
   where
-    named : (reg : ℕ) → reg < 14 → (names_register 14 (instr Ldw reg 5 0 0) || names_register 15 (instr Ldw reg 5 0 0)) ≡ false
+    named : (reg : ℕ) → reg < 14 →
+        (names_register 14 (instr Ldw reg 5 0 0) || names_register 15 (instr Ldw reg 5 0 0)) ≡ false
     named reg h = grind (arith, nat_tests)
 
 puts_good : (n reg slot : ℕ) → reg < 14 → AllGood n (puts reg slot)
 puts_good n reg slot h = ((refl, refl, refl), ((named reg h, refl, refl), tt))
   where
-    named : (reg : ℕ) → reg < 14 → (names_register 14 (instr Stw reg 5 0 0) || names_register 15 (instr Stw reg 5 0 0)) ≡ false
+    named : (reg : ℕ) → reg < 14 →
+        (names_register 14 (instr Stw reg 5 0 0) || names_register 15 (instr Stw reg 5 0 0)) ≡ false
     named reg h = grind (arith, nat_tests)
 
 operator_good : (n : ℕ) (op : Operator) → AllGood n (operator_code op)
@@ -71,8 +73,11 @@ expression_good : (n top : ℕ) (e : Expression) → AllGood n (expression_code 
 expression_good n top (Number x) = ((refl, refl, refl), tt)
 expression_good n top (Variable i) = fetches_good n 4 i (omega arith)
 expression_good n top (Binary a op b) =
-    good_append n (expression_code top a) (puts 4 top ++ (expression_code (suc top) b ++ (fetches 6 top ++ operator_code op))) (expression_good n top a)
-    (good_append n (puts 4 top) (expression_code (suc top) b ++ (fetches 6 top ++ operator_code op)) (puts_good n 4 top (omega arith))
+    good_append n (expression_code top a)
+    (puts 4 top ++ (expression_code (suc top) b ++ (fetches 6 top ++ operator_code op)))
+    (expression_good n top a)
+    (good_append n (puts 4 top) (expression_code (suc top) b ++ (fetches 6 top ++ operator_code op))
+    (puts_good n 4 top (omega arith))
     (good_append n (expression_code (suc top) b) (fetches 6 top ++ operator_code op) (expression_good n (suc top) b)
     (good_append n (fetches 6 top) (operator_code op) (fetches_good n 6 top (omega arith)) (operator_good n op))))
 
@@ -80,16 +85,24 @@ arguments_good : (n top : ℕ) (es : List Expression) → AllGood n (arguments_c
 arguments_good n top [] = tt
 arguments_good n top (e ∷ es) =
     good_append n (expression_code top e) (puts 4 top ++ arguments_code (suc top) es) (expression_good n top e)
-    (good_append n (puts 4 top) (arguments_code (suc top) es) (puts_good n 4 top (omega arith)) (arguments_good n (suc top) es))
+    (good_append n (puts 4 top) (arguments_code (suc top) es) (puts_good n 4 top (omega arith))
+    (arguments_good n (suc top) es))
 
-registers_good : (n reg top left : ℕ) (es : List Expression) → reg + left ≤ 14 → AllGood n (registers_code reg top left es)
+registers_good : (n reg top left : ℕ) (es : List Expression) → reg + left ≤ 14 →
+    AllGood n (registers_code reg top left es)
 registers_good n reg top zero es h = tt
-registers_good n reg top (suc left) [] h = ((named reg (omega (arith, h)), refl, refl), registers_good n (suc reg) top left [] (omega (arith, h)))
+registers_good n reg top (suc left) [] h = (
+  (named reg (omega (arith, h)), refl, refl),
+  registers_good n (suc reg) top
+      left [] (omega (arith, h)),
+)
   where
-    named : (reg : ℕ) → reg < 14 → (names_register 14 (instr Li reg 0 0 0) || names_register 15 (instr Li reg 0 0 0)) ≡ false
+    named : (reg : ℕ) → reg < 14 →
+        (names_register 14 (instr Li reg 0 0 0) || names_register 15 (instr Li reg 0 0 0)) ≡ false
     named reg h = grind (arith, nat_tests)
 registers_good n reg top (suc left) (e ∷ es) h =
-    good_append n (fetches reg top) (registers_code (suc reg) (suc top) left es) (fetches_good n reg top (omega (arith, h)))
+    good_append n (fetches reg top) (registers_code (suc reg) (suc top) left es)
+    (fetches_good n reg top (omega (arith, h)))
     (registers_good n (suc reg) (suc top) left es (omega (arith, h)))
 
 jz_good : (n t : ℕ) → t < n → IsGood n (instr Jz 4 0 0 t)
@@ -98,12 +111,14 @@ jz_good n t h = (refl, inside n t h, refl)
 jmp_good : (n t : ℕ) → t < n → IsGood n (instr Jmp 0 0 0 t)
 jmp_good n t h = (refl, inside n t h, refl)
 
-statements_good : (n v c : ℕ) (p : Program) → CallsFit p → c + length (statements_code v c p) < n → AllGood n (statements_code v c p)
+statements_good : (n v c : ℕ) (p : Program) → CallsFit p → c + length (statements_code v c p) < n →
+    AllGood n (statements_code v c p)
 statements_good n v c Done fits h = tt
 statements_good n v c (Assigns i e p) fits h =
     let first = expression_code v e ++ puts 4 i in
     let rest = statements_code v (c + length first) p in
-    good_append n first rest (good_append n (expression_code v e) (puts 4 i) (expression_good n v e) (puts_good n 4 i (omega arith)))
+    good_append n first rest (good_append n (expression_code v e) (puts 4 i) (expression_good n v e)
+    (puts_good n 4 i (omega arith)))
     (statements_good n v (c + length first) p fits (omega (arith, h, length-append first rest)))
 statements_good n v c (Calls i id es p) fits h =
     let last = instr Call 0 0 0 id ∷ puts 0 i in
@@ -111,7 +126,8 @@ statements_good n v c (Calls i id es p) fits h =
     let rest = statements_code v (c + length first) p in
     good_append n first rest
     (good_append n (arguments_code v es) (registers_code 0 v 3 es ++ last) (arguments_good n v es)
-    (good_append n (registers_code 0 v 3 es) last (registers_good n 0 v 3 es (omega arith)) ((refl, refl, known id fits.0), puts_good n 0 i (omega arith))))
+    (good_append n (registers_code 0 v 3 es) last (registers_good n 0 v 3 es (omega arith))
+    ((refl, refl, known id fits.0), puts_good n 0 i (omega arith))))
     (statements_good n v (c + length first) p fits.1 (omega (arith, h, length-append first rest)))
 statements_good n v c (When e body p) fits h =
     let test = expression_code v e in
@@ -157,7 +173,8 @@ statements_good n v c (Loops e body p) fits h =
       good_append n inner last (statements_good n v (c + length test + 1) body fits.0 (omega (arith, h, e1, e2)))
           (jmp_good n c (omega (arith, h, e1, e2)), statements_good n v behind p fits.1 (omega (arith, h, e1, e2))),
     )
-statements_good n v c (Traps code p) fits h = ((refl, refl, refl), statements_good n v (c + 1) p fits (omega (arith, h)))
+statements_good n v c (Traps code p) fits h =
+    ((refl, refl, refl), statements_good n v (c + 1) p fits (omega (arith, h)))
 statements_good n v c (Answers e f p) fits h =
     let a = expression_code v e in
     let b = expression_code (suc v) f in
@@ -167,13 +184,18 @@ statements_good n v c (Answers e f p) fits h =
     good_append n first rest
     (good_append n a (puts 4 v ++ (b ++ end)) (expression_good n v e)
     (good_append n (puts 4 v) (b ++ end) (puts_good n 4 v (omega arith))
-    (good_append n b end (expression_good n (suc v) f)
-    ((refl, refl, refl), good_append n (fetches 0 v) (instr Ret 0 0 0 0 ∷ []) (fetches_good n 0 v (omega arith)) ((refl, refl, refl), tt)))))
+    (good_append n b end (expression_good n (suc v) f) (
+      (refl, refl, refl),
+      good_append n (fetches 0 v)
+          (instr Ret 0 0 0 0 ∷ []) (fetches_good n 0 v (omega arith)) ((refl, refl, refl), tt),
+    ))))
     (statements_good n v (c + length first) p fits (omega (arith, h, length-append first rest)))
 
 zeros_good : (n i k : ℕ) → AllGood n (zeros_code i k)
 zeros_good n i zero = tt
-zeros_good n i (suc k) = good_append n (puts 4 i) (zeros_code (suc i) k) (puts_good n 4 i (omega arith)) (zeros_good n (suc i) k)
+zeros_good n i (suc k) =
+    good_append n (puts 4 i) (zeros_code (suc i) k) (puts_good n 4 i (omega arith))
+    (zeros_good n (suc i) k)
 
 prologue_good : (n v : ℕ) → AllGood n (prologue v)
 prologue_good n v =
@@ -199,10 +221,12 @@ no_fault_at : (code : List Instr) (pc : ℕ) (i : Instr) → IsGood (length code
 no_fault_at code pc i h =
     ap (λ b. cond b (Some (NamesReserved pc)) (cond (is_jump i.op && nat_le (length code) i.imm) (Some (JumpsOut pc))
     (cond (is_direct_call i.op && nat_lt 15 i.imm) (Some (CallsUnknown pc)) None))) h.0
-    ∙ ap (λ b. cond b (Some (JumpsOut pc)) (cond (is_direct_call i.op && nat_lt 15 i.imm) (Some (CallsUnknown pc)) None)) h.1
+    ∙ ap (λ b. cond b (Some (JumpsOut pc))
+    (cond (is_direct_call i.op && nat_lt 15 i.imm) (Some (CallsUnknown pc)) None)) h.1
     ∙ ap (λ b. cond b (Some (CallsUnknown pc)) None) h.2
 
-no_fault : (code : List Instr) → ends_well code ≡ true → boxed_place code (length code) ≤ 1024 → (is : List Instr) (pc : ℕ) → AllGood (length code) is
+no_fault : (code : List Instr) → ends_well code ≡ true → boxed_place code (length code) ≤ 1024 →
+    (is : List Instr) (pc : ℕ) → AllGood (length code) is
     → rewrite_fault_from code pc is ≡ None
 no_fault code ends short [] pc h =
     ap (λ b. cond (not b) (Some NoEnd) (cond (nat_lt 1024 (boxed_place code (length code))) (Some TooLong) None)) ends
@@ -211,7 +235,10 @@ no_fault code ends short [] pc h =
     within : (n : ℕ) → n ≤ 1024 → nat_lt 1024 n ≡ false
     within n h = grind (arith, nat_tests)
 no_fault code ends short (i ∷ is) pc h =
-    ap (λ (o : Option RewriteFault). elim o as (λ _. Option RewriteFault) [ Some fault ↦ Some fault | None ↦ rewrite_fault_from code (suc pc) is ])
+    ap (λ (o : Option RewriteFault). elim o as (λ _. Option RewriteFault) [
+      | Some fault ↦ Some fault
+      | None ↦ rewrite_fault_from code (suc pc) is
+    ])
     (no_fault_at code pc i h.0) ∙ no_fault code ends short is (suc pc) h.1
 
 pub programs_are_boxed : ProgramsAreBoxed
@@ -224,13 +251,18 @@ programs_are_boxed v p least most few fits =
     let n = length code in
     let good : AllGood n code =
     good_append n begin (stmts ++ epilogue) (prologue_good n v)
-    (good_append n stmts epilogue (statements_good n v (length begin) p fits (omega (arith, e1, e2))) (epilogue_good n)) in
+    (good_append n stmts epilogue
+    (statements_good n v (length begin) p fits (omega (arith, e1, e2))) (epilogue_good n)) in
     let ends : ends_well code ≡ true = ends_as begin stmts in
     let short = programs_are_short v p least most in
     let none = no_fault code ends (omega (arith, short, few)) code 0 good in
-    ap (λ (o : Option RewriteFault). elim o as (λ _. Result (List Instr) RewriteFault) [ Some fault ↦ Err fault | None ↦ Ok (boxed_code code) ]) none
+    ap (λ (o : Option RewriteFault). elim o as (λ _. Result (List Instr)
+    RewriteFault) [ Some fault ↦ Err fault | None ↦ Ok (boxed_code code) ]) none
   where
     ends_as : (is ks : List Instr) → ends_well (is ++ (ks ++ epilogue)) ≡ true
-    ends_as is [] = ends_well-append is (instr Li 5 0 0 (4 * 0)) (instr Ldw 0 5 0 0 ∷ (fetches 1 1 ++ (instr Ret 0 0 0 0 ∷ [])))
+    ends_as is [] =
+        ends_well-append is
+        (instr Li 5 0 0 (4 * 0)) (instr Ldw 0 5 0 0 ∷ (fetches 1 1 ++ (instr Ret 0 0 0 0 ∷ [])))
     ends_as is (k ∷ ks) = ends_well-append is k (ks ++ epilogue)
-        ∙ ends_well-append (k ∷ ks) (instr Li 5 0 0 (4 * 0)) (instr Ldw 0 5 0 0 ∷ (fetches 1 1 ++ (instr Ret 0 0 0 0 ∷ [])))
+        ∙ ends_well-append (k ∷ ks) (instr Li 5 0 0
+        (4 * 0)) (instr Ldw 0 5 0 0 ∷ (fetches 1 1 ++ (instr Ret 0 0 0 0 ∷ [])))

@@ -1,13 +1,13 @@
 -- The lengths of boxed code.
 use Rattle.std.specs.Prelude.{◌≡◌, ℕ, zero, suc, ◌+◌, ◌-◌, ◌*◌, ◌≤◌, List, [], ◌∷◌, ◌++◌, length}
 use Rattle.std.proofs.Common.{arith, refl, ap}
-use Rattle.kernel_model.specs.declared.Instr.{Instr}
-use Rattle.kernel_model.specs.declared.Op.TheVariants.{Li, Mov, Jmp, Jz, Call, Ret}
-use Rattle.kernel_model.specs.Boxed.{instr, boxed_length, boxed_place}
-use Rattle.kernel_model.specs.declared.language.Operator.{Operator}
-use Rattle.kernel_model.specs.declared.language.Operator.TheVariants as o
-use Rattle.kernel_model.specs.LanguageMeaning.{Expression, Number, Variable, Binary, Program, Done, Assigns, Calls}
-use Rattle.kernel_model.specs.LanguageMeaning.{When, Either, Loops, Traps, Answers}
+use Rattle.graft_texts.specs.declared.Instr.{Instr}
+use Rattle.graft_texts.specs.declared.Op.TheVariants.{Li, Mov, Jmp, Jz, Call, Ret}
+use Rattle.graft_texts.specs.Boxed.{instr, boxed_length, boxed_place}
+use Rattle.graft_texts.specs.declared.language.Operator.{Operator}
+use Rattle.graft_texts.specs.declared.language.Operator.TheVariants as o
+use Rattle.graft_texts.specs.LanguageMeaning.{Expression, Number, Variable, Binary, Program, Done, Assigns, Calls}
+use Rattle.graft_texts.specs.LanguageMeaning.{When, Either, Loops, Traps, Answers}
 use Rattle.graft_lang.specs.Code.{fetches, puts, operator_code, expression_code, arguments_code, registers_code}
 use Rattle.graft_lang.specs.Code.{statements_code, zeros_code, prologue, epilogue, program_code}
 use Rattle.graft_lang.specs.Sizes.{expression_tokens, argument_tokens, program_tokens, semicolons, ProgramsAreShort}
@@ -46,7 +46,8 @@ expression_short top (Binary a op b) =
     let ha = expression_short top a in
     let hb = expression_short (suc top) b in
     let ho = operator_short op in
-    let e1 = total-append (expression_code top a) (puts 4 top ++ (expression_code (suc top) b ++ (fetches 6 top ++ operator_code op))) in
+    let e1 = total-append (expression_code top a)
+    (puts 4 top ++ (expression_code (suc top) b ++ (fetches 6 top ++ operator_code op))) in
     let e2 = total-append (puts 4 top) (expression_code (suc top) b ++ (fetches 6 top ++ operator_code op)) in
     let e3 = total-append (expression_code (suc top) b) (fetches 6 top ++ operator_code op) in
     let e4 = total-append (fetches 6 top) (operator_code op) in

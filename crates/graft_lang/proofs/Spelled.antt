@@ -4,21 +4,21 @@ use Rattle.std.specs.Prelude.{◌∷◌, ◌++◌, length, Option, None, Some, R
 use Rattle.std.proofs.Common.{arith, refl, subst, sym, ap, ◌∙◌}
 use Rattle.std.proofs.lemmas.Bool.Decides.{nat_tests}
 use Rattle.std.proofs.lemmas.List.{length-append, append_assoc}
-use Rattle.kernel_model.specs.declared.Instr.{Instr}
-use Rattle.kernel_model.specs.World.{Image, plain_image}
-use Rattle.kernel_model.specs.Boxed.{boxed_length, boxed_code, rewrite}
-use Rattle.kernel_model.specs.declared.language.LangKind.{LangKind}
-use Rattle.kernel_model.specs.declared.language.LangKind.TheVariants.{NoProgram, TooManyTokens}
-use Rattle.kernel_model.specs.declared.language.Goal.{Goal}
-use Rattle.kernel_model.specs.LanguageTokens.{Token, token_of}
-use Rattle.kernel_model.specs.LanguageWords.{Word, words, last_line}
-use Rattle.kernel_model.specs.LanguageGrammar as g
-use Rattle.kernel_model.specs.LanguageGrammar.{follow, follow_all, first_goals, is_met}
-use Rattle.kernel_model.specs.LanguageReading.{Reading, Syntax, LineFault, first_reading, with_token, read_on, checked}
-use Rattle.kernel_model.specs.LanguageReading.{followed, fault_of, read_token, read_by, read_words, ended, read}
-use Rattle.kernel_model.specs.LanguageReading.{refused}
-use Rattle.kernel_model.specs.LanguageMeaning as l
-use Rattle.kernel_model.specs.LanguageImages.{Behaves, IsCompiled}
+use Rattle.graft_texts.specs.declared.Instr.{Instr}
+use Rattle.graft_texts.specs.World.{Image, plain_image}
+use Rattle.graft_texts.specs.Boxed.{boxed_length, boxed_code, rewrite}
+use Rattle.graft_texts.specs.declared.language.LangKind.{LangKind}
+use Rattle.graft_texts.specs.declared.language.LangKind.TheVariants.{NoProgram, TooManyTokens}
+use Rattle.graft_texts.specs.declared.language.Goal.{Goal}
+use Rattle.graft_texts.specs.LanguageTokens.{Token, token_of}
+use Rattle.graft_texts.specs.LanguageWords.{Word, words, last_line}
+use Rattle.graft_texts.specs.LanguageGrammar as g
+use Rattle.graft_texts.specs.LanguageGrammar.{follow, follow_all, first_goals, is_met}
+use Rattle.graft_texts.specs.LanguageReading.{Reading, Syntax, LineFault, first_reading, with_token, read_on, checked}
+use Rattle.graft_texts.specs.LanguageReading.{followed, fault_of, read_token, read_by, read_words, ended, read}
+use Rattle.graft_texts.specs.LanguageReading.{refused}
+use Rattle.graft_texts.specs.LanguageMeaning as l
+use Rattle.graft_texts.specs.LanguageImages.{Behaves, IsCompiled}
 use Rattle.graft_syntax.specs.Laws.{IsMet}
 use Rattle.graft_syntax.proofs.Filling.{read_tokens_are_spelled}
 use Rattle.graft_lang.specs.Sizes.{program_tokens, semicolons}

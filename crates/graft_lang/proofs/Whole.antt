@@ -4,18 +4,18 @@ use Rattle.std.specs.Prelude.{List, [], ◌∷◌, ◌++◌, length, slice_get, 
 use Rattle.std.proofs.Common.{arith, refl, subst, sym, ap, ◌∙◌, append_assoc}
 use Rattle.std.proofs.lemmas.Bool.Decides.{nat_tests}
 use Rattle.std.proofs.lemmas.List.{length-append}
-use Rattle.kernel_model.specs.declared.Instr.{Instr}
-use Rattle.kernel_model.specs.declared.Op.TheVariants.{Li, Stw, Ret}
-use Rattle.kernel_model.specs.Boxed.{instr}
-use Rattle.kernel_model.specs.Objects.{at}
-use Rattle.kernel_model.specs.Machine.{word}
-use Rattle.kernel_model.specs.Runs.{CodeRun, MadeCall, Halt, Unanswered, AtReturn, AtDivision, AtTrap, first_run}
-use Rattle.kernel_model.specs.LanguageMeaning as m
-use Rattle.kernel_model.specs.LanguageMeaning.{Program, End, Answered, Trapped, DividedByZero, Asks, Going, State, does}
-use Rattle.kernel_model.specs.LanguageMeaning.{at_end, first_state}
+use Rattle.graft_texts.specs.declared.Instr.{Instr}
+use Rattle.graft_texts.specs.declared.Op.TheVariants.{Li, Stw, Ret}
+use Rattle.graft_texts.specs.Boxed.{instr}
+use Rattle.graft_texts.specs.Objects.{at}
+use Rattle.graft_texts.specs.Machine.{word}
+use Rattle.graft_texts.specs.Runs.{CodeRun, MadeCall, Halt, Unanswered, AtReturn, AtDivision, AtTrap, first_run}
+use Rattle.graft_texts.specs.LanguageMeaning as m
+use Rattle.graft_texts.specs.LanguageMeaning.{Program, End, Answered, Trapped, DividedByZero, Asks, Going, State, does}
+use Rattle.graft_texts.specs.LanguageMeaning.{at_end, first_state}
 use Rattle.graft_lang.specs.Code.{fetches, puts, statements_code, zeros_code, prologue, epilogue, program_code}
 use Rattle.graft_lang.specs.Placing.{Stands, slot_of, IsAt}
-use Rattle.kernel_model.specs.LanguageImages.{end_by, end_of, said, AreArguments, AreWords}
+use Rattle.graft_texts.specs.LanguageImages.{end_by, end_of, said, AreArguments, AreWords}
 use Rattle.graft_lang.specs.Going.{run, going, IsSmall, HasEnd, EndsSo, GoesBy, FitsProgram}
 use Rattle.graft_lang.specs.Behaves.{ProgramsRun}
 use Rattle.graft_lang.proofs.Running.{one_step, run_over, two_parts, stands_first, stands_second, put_is, fetch_runs}
@@ -28,16 +28,26 @@ use Rattle.graft_lang.proofs.Statements.{statements_run, returned, two_turns}
 same_cells : (cells other : ℕ → ℕ) (top c : ℕ) (calls : List MadeCall) (answers : List (ℕ × ℕ)) (r : CodeRun)
     → ((j : ℕ) → j < top → cells j ≡ other j) → IsAt cells top c calls answers r → IsAt other top c calls answers r
 same_cells cells other top c calls answers r same a =
-    record { place = a.place; going = a.going; slots = λ j less. a.slots j less ∙ same j less; calls_are = a.calls_are; answers_are = a.answers_are }
+    record {
+      place = a.place;
+      going = a.going;
+      slots = λ j less. a.slots j less ∙ same j less;
+      calls_are = a.calls_are;
+      answers_are = a.answers_are;
+    }
 
 -- a put keeps the registers but r5
-put_keeps : (code : List Instr) (cells : ℕ → ℕ) (top c : ℕ) (calls : List MadeCall) (answers : List (ℕ × ℕ)) (reg slot j : ℕ) (r : CodeRun)
-    → slot < 1024 → j ≢ 5 → Stands code c (puts reg slot) → IsAt cells top c calls answers r → (run code 2 r).machine.regs j ≡ r.machine.regs j
+put_keeps : (code : List Instr) (cells : ℕ → ℕ) (top c : ℕ) (calls : List MadeCall)
+    (answers : List (ℕ × ℕ)) (reg slot j : ℕ) (r : CodeRun)
+    → slot < 1024 → j ≢ 5 → Stands code c (puts reg slot) → IsAt cells top c calls answers r →
+    (run code 2 r).machine.regs j ≡ r.machine.regs j
 put_keeps code cells top c calls answers reg slot j r low other h a =
-    let first : slice_get code r.machine.pc ≡ Some (instr Li 5 0 0 (4 * slot)) = subst (λ n. slice_get code n ≡ Some (instr Li 5 0 0 (4 * slot))) (sym a.place) h.0 in
+    let first : slice_get code r.machine.pc ≡ Some (instr Li 5 0 0 (4 * slot)) =
+    subst (λ n. slice_get code n ≡ Some (instr Li 5 0 0 (4 * slot))) (sym a.place) h.0 in
     let second : slice_get code (r.machine.pc + 1) ≡ Some (instr Stw reg 5 0 0) =
     subst (λ n. slice_get code n ≡ Some (instr Stw reg 5 0 0)) (omega (arith, a.place)) h.1.0 in
-    ap (λ (u : CodeRun). u.machine.regs j) (put_is code reg slot r a.going low first second) ∙ elsewhere (word (4 * slot)) r.machine.regs
+    ap (λ (u : CodeRun). u.machine.regs j) (put_is code reg slot r a.going low first second)
+    ∙ elsewhere (word (4 * slot)) r.machine.regs
   where
     elsewhere : (x : ℕ) (regs : ℕ → ℕ) → at 5 x regs j ≡ regs j
     elsewhere x regs = grind (arith, nat_tests, other)
@@ -57,14 +67,19 @@ zeroed_below (suc n) i j cells h = zeroed_below n (suc i) j (at i 0 cells) (omeg
 zeroed_within : (n i k : ℕ) (cells : ℕ → ℕ) → k < n → zeroed i n cells (i + k) ≡ 0
 zeroed_within zero i k cells h = absurd (omega (arith, h))
 zeroed_within (suc n) i zero cells h =
-    let same : i + 0 ≡ i = omega arith in ap (zeroed (suc i) n (at i 0 cells)) same ∙ zeroed_below n (suc i) i (at i 0 cells) (omega arith) ∙ own
+    let same : i + 0 ≡ i = omega arith in
+    ap (zeroed (suc i) n (at i 0 cells)) same
+    ∙ zeroed_below n (suc i) i (at i 0 cells) (omega arith) ∙ own
   where
     own : at i 0 cells i ≡ 0
     own = grind (arith, nat_tests)
 zeroed_within (suc n) i (suc k) cells h =
-    let same : i + suc k ≡ suc i + k = omega arith in ap (zeroed (suc i) n (at i 0 cells)) same ∙ zeroed_within n (suc i) k (at i 0 cells) (omega (arith, h))
+    let same : i + suc k ≡ suc i + k = omega arith in
+    ap (zeroed (suc i) n (at i 0 cells)) same
+    ∙ zeroed_within n (suc i) k (at i 0 cells) (omega (arith, h))
 
-zeros_run : (n i : ℕ) (code : List Instr) (cells : ℕ → ℕ) (top c : ℕ) (calls : List MadeCall) (answers : List (ℕ × ℕ)) (r : CodeRun)
+zeros_run : (n i : ℕ) (code : List Instr) (cells : ℕ → ℕ) (top c : ℕ) (calls : List MadeCall)
+    (answers : List (ℕ × ℕ)) (r : CodeRun)
     → i + n ≤ 1024 → Stands code c (zeros_code i n) → IsAt cells top c calls answers r → r.machine.regs 4 ≡ 0
     → IsAt (zeroed i n cells) top (c + length (zeros_code i n)) calls answers (run code (length (zeros_code i n)) r)
 zeros_run zero i code cells top c calls answers r low h a z =
@@ -77,31 +92,47 @@ zeros_run (suc n) i code cells top c calls answers r low h a z =
     let long : length (puts 4 i ++ zeros_code (suc i) n) ≡ 2 + len = length-append (puts 4 i) (zeros_code (suc i) n) in
     let there : c + 2 + len ≡ c + (2 + len) = omega arith in
     subst (λ k. IsAt (zeroed (suc i) n (at i 0 cells)) top (c + k) calls answers (run code k r)) (sym long)
-    (subst (λ u. IsAt (zeroed (suc i) n (at i 0 cells)) top (c + (2 + len)) calls answers u) (sym (two_parts code 2 len r))
+    (subst (λ u. IsAt (zeroed (suc i) n (at i 0 cells)) top (c + (2 + len)) calls answers u)
+    (sym (two_parts code 2 len r))
     (subst (λ q. IsAt (zeroed (suc i) n (at i 0 cells)) top q calls answers (run code len (run code 2 r))) there
     (zeros_run n (suc i) code (at i 0 cells) top (c + 2) calls answers (run code 2 r) (omega (arith, low))
     (stands_second code c (puts 4 i) (zeros_code (suc i) n) h) p
     (put_keeps code cells top c calls answers 4 i 4 r low_i (λ e. absurd cc) first a ∙ z))))
 
 -- r4 becomes 0
-clear_runs : (code : List Instr) (cells : ℕ → ℕ) (top c : ℕ) (calls : List MadeCall) (answers : List (ℕ × ℕ)) (r : CodeRun)
+clear_runs : (code : List Instr) (cells : ℕ → ℕ) (top c : ℕ) (calls : List MadeCall)
+    (answers : List (ℕ × ℕ)) (r : CodeRun)
     → slice_get code c ≡ Some (instr Li 4 0 0 0) → IsAt cells top c calls answers r
     → IsAt cells top (c + 1) calls answers (run code 1 r) × ((run code 1 r).machine.regs 4 ≡ 0)
 clear_runs code cells top c calls answers r h a =
-    let here : slice_get code r.machine.pc ≡ Some (instr Li 4 0 0 0) = subst (λ k. slice_get code k ≡ Some (instr Li 4 0 0 0)) (sym a.place) h in
-    subst (λ u. IsAt cells top (c + 1) calls answers u × (u.machine.regs 4 ≡ 0)) (sym (one_step code r (instr Li 4 0 0 0) 0 a.going here))
-    (record { place = ap (λ n. n + 1) a.place; going = a.going; slots = a.slots; calls_are = a.calls_are; answers_are = a.answers_are }, refl)
+    let here : slice_get code r.machine.pc ≡ Some (instr Li 4 0 0 0) =
+    subst (λ k. slice_get code k ≡ Some (instr Li 4 0 0 0)) (sym a.place) h in
+    subst (λ u. IsAt cells top (c + 1) calls answers u × (u.machine.regs 4 ≡ 0))
+    (sym (one_step code r (instr Li 4 0 0 0) 0 a.going here)) (
+      record {
+        place = ap (λ n. n + 1) a.place;
+        going = a.going;
+        slots = a.slots;
+        calls_are = a.calls_are;
+        answers_are = a.answers_are;
+      },
+      refl,
+    )
 
 -- the words of the four arguments
 abbrev four : (ℕ → ℕ) → List ℕ → ℕ → ℕ
-four cells xs = at 3 (slice_index xs 3) (at 2 (slice_index xs 2) (at 1 (slice_index xs 1) (at 0 (slice_index xs 0) cells)))
+four cells xs =
+    at 3 (slice_index xs 3)
+    (at 2 (slice_index xs 2) (at 1 (slice_index xs 1) (at 0 (slice_index xs 0) cells)))
 
 -- the first cells of a program
 abbrev first_cells : List ℕ → ℕ → ℕ
 first_cells xs i = cond (nat_lt i 4) (slice_index xs i) 0
 
-begins : (v : ℕ) (code : List Instr) (segment : ℕ → ℕ) (xs : List ℕ) (answers : List (ℕ × ℕ)) → 4 ≤ v → v < 1021 → Stands code 0 (prologue v)
-    → IsAt (first_cells xs) v (length (prologue v)) [] answers (run code (length (prologue v)) (first_run 262144 segment xs answers))
+begins : (v : ℕ) (code : List Instr) (segment : ℕ → ℕ) (xs : List ℕ) (answers : List (ℕ × ℕ)) →
+    4 ≤ v → v < 1021 → Stands code 0 (prologue v)
+    → IsAt (first_cells xs) v (length (prologue v)) [] answers
+    (run code (length (prologue v)) (first_run 262144 segment xs answers))
 begins v code segment xs answers least low h =
     let r = first_run 262144 segment xs answers in
     let base : ℕ → ℕ = λ i. slot_of segment i in
@@ -117,7 +148,13 @@ begins v code segment xs answers least low h =
     let s1 = stands_first code 2 (puts 1 1) tail2 h1 in
     let s2 = stands_first code 4 (puts 2 2) tail3 h2 in
     let s3 = stands_first code 6 (puts 3 3) tail4 h3 in
-    let a0 : IsAt base v 0 [] answers r = record { place = refl; going = refl; slots = λ j less. refl; calls_are = refl; answers_are = refl } in
+    let a0 : IsAt base v 0 [] answers r = record {
+      place = refl;
+      going = refl;
+      slots = λ j less. refl;
+      calls_are = refl;
+      answers_are = refl;
+    } in
     let r1 = run code 2 r in
     let a1 = put_slot code base v 0 [] answers 0 0 (slice_index xs 0) r (omega arith) s0 a0 refl in
     let k11 = put_keeps code base v 0 [] answers 0 0 1 r (omega arith) (λ e. absurd cc) s0 a0 in
@@ -137,13 +174,22 @@ begins v code segment xs answers least low h =
     let a4 = put_slot code c3 v 6 [] answers 3 3 (slice_index xs 3) r3 (omega arith) s3 a3 k33 in
     let z = clear_runs code (four base xs) v 8 [] answers r4 h4.0 a4 in
     let n = length (zeros_code 4 (v - 4)) in
-    let last = zeros_run (v - 4) 4 code (four base xs) v 9 [] answers (run code 1 r4) (omega (arith, low, least)) h4.1 z.0 z.1 in
-    let parts = two_parts code 2 (2 + (2 + (2 + (1 + n)))) r ∙ two_parts code 2 (2 + (2 + (1 + n))) r1 ∙ two_parts code 2 (2 + (1 + n)) r2
+    let last = zeros_run (v - 4) 4 code (four base xs) v 9 [] answers (run code 1 r4)
+    (omega (arith, low, least)) h4.1 z.0 z.1 in
+    let parts = two_parts code 2 (2 + (2 + (2 + (1 + n)))) r
+    ∙ two_parts code 2 (2 + (2 + (1 + n))) r1 ∙ two_parts code 2 (2 + (1 + n)) r2
     ∙ two_parts code 2 (1 + n) r3 ∙ two_parts code 1 n r4 in
     let long : 2 + (2 + (2 + (2 + (1 + n)))) ≡ length (prologue v) =
-    omega (arith, length-append (puts 0 0) tail1, length-append (puts 1 1) tail2, length-append (puts 2 2) tail3, length-append (puts 3 3) tail4) in
+    omega (
+      arith,
+      length-append (puts 0 0) tail1,
+      length-append (puts 1 1) tail2,
+      length-append (puts 2 2) tail3,
+      length-append (puts 3 3) tail4,
+    ) in
     let place : 9 + n ≡ 2 + (2 + (2 + (2 + (1 + n)))) = omega arith in
-    same_cells (zeroed 4 (v - 4) (four base xs)) (first_cells xs) v (length (prologue v)) [] answers (run code (length (prologue v)) r) (λ j less. cells_are base j less)
+    same_cells (zeroed 4 (v - 4) (four base xs)) (first_cells xs) v (length (prologue v)) [] answers
+    (run code (length (prologue v)) r) (λ j less. cells_are base j less)
     (subst (λ k. IsAt (zeroed 4 (v - 4) (four base xs)) v k [] answers (run code k r)) long
     (subst (λ u. IsAt (zeroed 4 (v - 4) (four base xs)) v (2 + (2 + (2 + (2 + (1 + n))))) [] answers u) (sym parts)
     (subst (λ q. IsAt (zeroed 4 (v - 4) (four base xs)) v q [] answers (run code n (run code 1 r4))) place last)))
@@ -166,26 +212,34 @@ begins v code segment xs answers least low h =
 
         by : (b : Bool) → nat_lt j 4 ≡ b → zeroed 4 (v - 4) (four base xs) j ≡ cond (nat_lt j 4) (slice_index xs j) 0
         by true e =
-            zeroed_below (v - 4) 4 j (four base xs) (inside e) ∙ argument base j (inside e) ∙ ap (λ b. cond b (slice_index xs j) 0) (sym e)
+            zeroed_below (v - 4) 4 j (four base xs) (inside e) ∙ argument base j (inside e)
+            ∙ ap (λ b. cond b (slice_index xs j) 0) (sym e)
         by false e =
             let o = outside e in
             let same : j ≡ 4 + (j - 4) = omega (arith, o) in
-            ap (zeroed 4 (v - 4) (four base xs)) same ∙ zeroed_within (v - 4) 4 (j - 4) (four base xs) (omega (arith, o, less))
+            ap (zeroed 4 (v - 4) (four base xs)) same
+            ∙ zeroed_within (v - 4) 4 (j - 4) (four base xs) (omega (arith, o, less))
             ∙ ap (λ b. cond b (slice_index xs j) 0) (sym e)
 
 -- ---- the end of the text
 
-finishes : (code : List Instr) (cells : ℕ → ℕ) (v c : ℕ) (calls : List MadeCall) (answers : List (ℕ × ℕ)) (r : CodeRun) → 4 ≤ v → ((i : ℕ) → cells i < 2 ^ 32)
+finishes : (code : List Instr) (cells : ℕ → ℕ) (v c : ℕ) (calls : List MadeCall)
+    (answers : List (ℕ × ℕ)) (r : CodeRun) → 4 ≤ v → ((i : ℕ) → cells i < 2 ^ 32)
     → Stands code c epilogue → IsAt cells v c calls answers r
     → HasEnd (Answered (cells 0) (cells 1)) (run code 5 r) × ((run code 5 r).calls ≡ calls)
 finishes code cells v c calls answers r least small h a =
     let second = stands_second code c (fetches 0 0) (fetches 1 1 ++ (instr Ret 0 0 0 0 ∷ [])) h in
-    let f = fetch_runs code cells v c calls answers 0 0 r (omega (arith, least)) (omega arith) (small 0) (stands_first code c (fetches 0 0) (fetches 1 1 ++ (instr Ret 0 0 0 0 ∷ [])) h) a in
-    let g = fetch_runs code cells v (c + 2) calls answers 1 1 (run code 2 r) (omega (arith, least)) (omega arith) (small 1)
+    let f =
+    fetch_runs code cells v c calls answers 0 0 r (omega (arith, least)) (omega arith) (small 0)
+    (stands_first code c (fetches 0 0) (fetches 1 1 ++ (instr Ret 0 0 0 0 ∷ [])) h) a in
+    let g = fetch_runs code cells v (c + 2) calls answers 1 1 (run code 2 r)
+    (omega (arith, least)) (omega arith) (small 1)
     (stands_first code (c + 2) (fetches 1 1) (instr Ret 0 0 0 0 ∷ []) second) f.stands in
     let e = returned code cells v (c + 2 + 2) calls answers (cells 0) (cells 1) (run code 2 (run code 2 r))
-    (stands_second code (c + 2) (fetches 1 1) (instr Ret 0 0 0 0 ∷ []) second).0 g.stands (g.others 0 (λ z. absurd cc) (λ z. absurd cc) ∙ f.here) g.here in
-    subst (λ u. HasEnd (Answered (cells 0) (cells 1)) u × (u.calls ≡ calls)) (sym (two_parts code 2 3 r ∙ two_parts code 2 1 (run code 2 r))) e
+    (stands_second code (c + 2) (fetches 1 1) (instr Ret 0 0 0 0 ∷ []) second).0 g.stands
+    (g.others 0 (λ z. absurd cc) (λ z. absurd cc) ∙ f.here) g.here in
+    subst (λ u. HasEnd (Answered (cells 0) (cells 1)) u × (u.calls ≡ calls))
+    (sym (two_parts code 2 3 r ∙ two_parts code 2 1 (run code 2 r))) e
 
 -- ---- code stands in itself
 
@@ -213,9 +267,20 @@ end_is (Trapped n) u h = ap (end_by u) h
 end_is DividedByZero u h = ap (end_by u) h
 end_is (Asks call) u h =
     ap (end_by u) h.0
-    ∙ ap (λ k. let made : MadeCall = record { id = call.id; r0 = k; r1 = u.machine.regs 1; r2 = u.machine.regs 2 } in Some (Asks made)) h.1
-    ∙ ap (λ k. let made : MadeCall = record { id = call.id; r0 = call.r0; r1 = k; r2 = u.machine.regs 2 } in Some (Asks made)) h.2
-    ∙ ap (λ k. let made : MadeCall = record { id = call.id; r0 = call.r0; r1 = call.r1; r2 = k } in Some (Asks made)) h.3
+    ∙ ap (λ k. let made : MadeCall = record {
+      id = call.id;
+      r0 = k;
+      r1 = u.machine.regs 1;
+      r2 = u.machine.regs 2;
+    } in Some (Asks made)) h.1
+    ∙ ap (λ k. let made : MadeCall = record {
+      id = call.id;
+      r0 = call.r0;
+      r1 = k;
+      r2 = u.machine.regs 2;
+    } in Some (Asks made)) h.2
+    ∙ ap (λ k. let made : MadeCall = record { id = call.id; r0 = call.r0; r1 = call.r1; r2 = k } in
+    Some (Asks made)) h.3
 end_is Going u h = ap (end_by u) h
 
 has_halt : (end : End) (u : CodeRun) → HasEnd end u → end ≢ Going → (halt : Halt) × (u.ended ≡ Some halt)
@@ -233,7 +298,8 @@ halted u end h other = by u.ended refl h
     by (Some halt) e k = (halt, e)
 
 -- a run that is over stays so
-over_later : (code : List Instr) (a b : ℕ) (r : CodeRun) (halt : Halt) → (run code a r).ended ≡ Some halt → run code (a + b) r ≡ run code a r
+over_later : (code : List Instr) (a b : ℕ) (r : CodeRun) (halt : Halt) →
+    (run code a r).ended ≡ Some halt → run code (a + b) r ≡ run code a r
 over_later code a b r halt e = two_parts code a b r ∙ run_over code (run code a r) b halt e
 
 -- ---- the whole run
@@ -242,33 +308,48 @@ over_later code a b r halt e = two_parts code a b r ∙ run_over code (run code 
 abbrev Comes : (code : List Instr) (room n : ℕ) → CodeRun → Option End → List MadeCall → Type 0
 Comes code room n r None calls = ⊥
 Comes code room n r (Some Going) calls = (k : ℕ) × (n < k) × ((run code k r).ended ≡ None)
-Comes code room n r (Some (Answered x y)) calls = (k : ℕ) × (k ≤ room) × HasEnd (Answered x y) (run code k r) × ((run code k r).calls ≡ calls)
-Comes code room n r (Some (Trapped x)) calls = (k : ℕ) × (k ≤ room) × HasEnd (Trapped x) (run code k r) × ((run code k r).calls ≡ calls)
-Comes code room n r (Some DividedByZero) calls = (k : ℕ) × (k ≤ room) × HasEnd DividedByZero (run code k r) × ((run code k r).calls ≡ calls)
-Comes code room n r (Some (Asks call)) calls = (k : ℕ) × (k ≤ room) × HasEnd (Asks call) (run code k r) × ((run code k r).calls ≡ calls)
+Comes code room n r (Some (Answered x y)) calls =
+    (k : ℕ) × (k ≤ room) × HasEnd (Answered x y) (run code k r) × ((run code k r).calls ≡ calls)
+Comes code room n r (Some (Trapped x)) calls =
+    (k : ℕ) × (k ≤ room) × HasEnd (Trapped x) (run code k r) × ((run code k r).calls ≡ calls)
+Comes code room n r (Some DividedByZero) calls =
+    (k : ℕ) × (k ≤ room) × HasEnd DividedByZero (run code k r) × ((run code k r).calls ≡ calls)
+Comes code room n r (Some (Asks call)) calls =
+    (k : ℕ) × (k ≤ room) × HasEnd (Asks call) (run code k r) × ((run code k r).calls ≡ calls)
 
 -- an end within the statements
-comes_ended : (end : End) (code : List Instr) (first len n room : ℕ) (r : CodeRun) (s t : State) → s.turns ≡ n → first + (len + n * len) ≤ room
+comes_ended : (end : End) (code : List Instr) (first len n room : ℕ) (r : CodeRun) (s t : State) →
+    s.turns ≡ n → first + (len + n * len) ≤ room
     → EndsSo code len len (run code first r) s t end
     → (k : ℕ) × (k ≤ room) × HasEnd end (run code k r) × ((run code k r).calls ≡ t.calls)
 comes_ended end code first len n room r s t turns fits h =
     let all = two_parts code first h.steps r in
-    let less : h.used * len ≤ n * len = more_turns h.used n len (omega (arith, h.turns_are, turns)) in
-    (first + h.steps, omega (arith, h.bound, less, fits), subst (λ u. HasEnd end u) (sym all) h.has, ap (λ (u : CodeRun). u.calls) all ∙ h.calls_are)
+    let less : h.used * len ≤ n * len = more_turns h.used n len (omega (arith, h.turns_are, turns)) in (
+      first + h.steps,
+      omega (arith, h.bound, less, fits),
+      subst (λ u. HasEnd end u)
+          (sym all) h.has,
+      ap (λ (u : CodeRun). u.calls) all ∙ h.calls_are,
+    )
   where
     more_turns : (a b m : ℕ) → a ≤ b → a * m ≤ b * m
     more_turns a b m h = let e = two_turns a (b - a) m in let same : a + (b - a) ≡ b = omega (arith, h) in
         let f : (a + (b - a)) * m ≡ b * m = ap (λ k. k * m) same in omega (arith, e, f)
 
 -- The statements of a program ran from here on: the end of the text comes where they went on.
-comes_by : (code : List Instr) (v first len n : ℕ) (r : CodeRun) (s t : State) → 4 ≤ v → s.turns ≡ n → Stands code (first + len) epilogue
+comes_by : (code : List Instr) (v first len n : ℕ) (r : CodeRun) (s t : State) → 4 ≤ v →
+    s.turns ≡ n → Stands code (first + len) epilogue
     → (o : Option End) → t.ended ≡ o → GoesBy o code len v first len (run code first r) s t
     → Comes code (first + (len + n * len) + 5) n r (at_end t).ended (at_end t).calls
 comes_by code v first len n r s t least turns h None e g =
     let all = two_parts code first (g.steps + 5) r ∙ two_parts code g.steps 5 (run code first r) in
-    let f = finishes code t.cells v (first + len) t.calls t.answers (run code g.steps (run code first r)) least g.small.cells_are h g.stands in
+    let f = finishes code t.cells v (first + len) t.calls t.answers
+    (run code g.steps (run code first r)) least g.small.cells_are h g.stands in
     let same : m.ends t (Answered (t.cells 0) (t.cells 1)) ≡ at_end t =
-    ap (λ (o : Option End). elim o as (λ _. State) [ Some end ↦ t | None ↦ m.ends t (Answered (t.cells 0) (t.cells 1)) ]) (sym e) in
+    ap (λ (o : Option End). elim o as (λ _. State) [
+      | Some end ↦ t
+      | None ↦ m.ends t (Answered (t.cells 0) (t.cells 1))
+    ]) (sym e) in
     let two = two_turns g.used t.turns len in
     let n_is : n ≡ g.used + t.turns = sym turns ∙ g.turns_are in
     let times : n * len ≡ (g.used + t.turns) * len = ap (λ k. k * len) n_is in
@@ -280,23 +361,34 @@ comes_by code v first len n r s t least turns h None e g =
     )
 comes_by code v first len n r s t least turns h (Some end) e g =
     let same : t ≡ at_end t =
-    ap (λ (o : Option End). elim o as (λ _. State) [ Some x ↦ t | None ↦ m.ends t (Answered (t.cells 0) (t.cells 1)) ]) (sym e) in
+    ap (λ (o : Option End). elim o as (λ _. State) [
+      | Some x ↦ t
+      | None ↦ m.ends t (Answered (t.cells 0) (t.cells 1))
+    ]) (sym e) in
     subst (λ (u : State). Comes code (first + (len + n * len) + 5) n r u.ended u.calls) same
     (subst (λ (o : Option End). Comes code (first + (len + n * len) + 5) n r o t.calls) (sym e) (by end g))
   where
     room : first + (len + n * len) ≤ first + (len + n * len) + 5
     room = omega arith
 
-    by : (end : End) → GoesBy (Some end) code len v first len (run code first r) s t → Comes code (first + (len + n * len) + 5) n r (Some end) t.calls
-    by Going k = (first + k.steps, omega (arith, k.more, turns), ap (λ (u : CodeRun). u.ended) (two_parts code first k.steps r) ∙ k.lasts)
+    by : (end : End) → GoesBy (Some end) code len v first len (run code first r) s t →
+        Comes code (first + (len + n * len) + 5) n r (Some end) t.calls
+    by Going k = (
+      first + k.steps,
+      omega (arith, k.more, turns),
+      ap (λ (u : CodeRun). u.ended)
+          (two_parts code first k.steps r) ∙ k.lasts,
+    )
     by (Answered x y) k = comes_ended (Answered x y) code first len n (first + (len + n * len) + 5) r s t turns room k
     by (Trapped x) k = comes_ended (Trapped x) code first len n (first + (len + n * len) + 5) r s t turns room k
     by DividedByZero k = comes_ended DividedByZero code first len n (first + (len + n * len) + 5) r s t turns room k
     by (Asks x) k = comes_ended (Asks x) code first len n (first + (len + n * len) + 5) r s t turns room k
 
-comes : (v : ℕ) (p : Program) (segment : ℕ → ℕ) (xs : List ℕ) (answers : List (ℕ × ℕ)) (n : ℕ) → 4 ≤ v → v < 1021 → FitsProgram v p
+comes : (v : ℕ) (p : Program) (segment : ℕ → ℕ) (xs : List ℕ) (answers : List (ℕ × ℕ)) (n : ℕ) →
+    4 ≤ v → v < 1021 → FitsProgram v p
     → AreArguments xs → AreWords answers
-    → Comes (program_code v p) (length (prologue v) + (length (statements_code v (length (prologue v)) p) + n * length (statements_code v (length (prologue v)) p)) + 5) n
+    → Comes (program_code v p) (length (prologue v) + (length (statements_code v
+    (length (prologue v)) p) + n * length (statements_code v (length (prologue v)) p)) + 5) n
     (first_run 262144 segment xs answers) (said p xs answers n).ended (said p xs answers n).calls
 comes v p segment xs answers n least low fits small words =
     let first = prologue v in
@@ -305,14 +397,17 @@ comes v p segment xs answers n least low fits small words =
     let whole : Stands code 0 code = stands_whole [] code in
     let behind = stands_second code 0 first (stmts ++ epilogue) whole in
     let here : 0 + length first ≡ length first = omega arith in
-    let at_stmts : Stands code (length first) (stmts ++ epilogue) = subst (λ c. Stands code c (stmts ++ epilogue)) here behind in
+    let at_stmts : Stands code (length first) (stmts ++ epilogue) =
+    subst (λ c. Stands code c (stmts ++ epilogue)) here behind in
     let r = first_run 262144 segment xs answers in
     let s = going (first_cells xs) [] answers n in
     let a = begins v code segment xs answers least low (stands_first code 0 first (stmts ++ epilogue) whole) in
     let fine : IsSmall s = record { cells_are = λ i. cell_small i (nat_lt i 4); answers_are = words } in
-    let g = statements_run p code (length stmts) v (length first) (first_cells xs) [] answers n (run code (length first) r) fine fits
+    let g = statements_run p code (length stmts) v (length first) (first_cells xs) [] answers n
+    (run code (length first) r) fine fits
     (stands_first code (length first) stmts epilogue at_stmts) (omega arith) a in
-    comes_by code v (length first) (length stmts) n r s (does p s) least refl (stands_second code (length first) stmts epilogue at_stmts) (does p s).ended refl g
+    comes_by code v (length first) (length stmts) n r s (does p s) least refl
+    (stands_second code (length first) stmts epilogue at_stmts) (does p s).ended refl g
   where
     cell_small : (i : ℕ) (b : Bool) → cond b (slice_index xs i) 0 < 2 ^ 32
     cell_small i true = small i
@@ -321,7 +416,8 @@ comes v p segment xs answers n least low fits small words =
 -- ---- both directions
 
 -- a comparison of ends that aren't Going
-ended_comes : (code : List Instr) (room n : ℕ) (r : CodeRun) (end : End) (calls : List MadeCall) → end ≢ Going → Comes code room n r (Some end) calls
+ended_comes : (code : List Instr) (room n : ℕ) (r : CodeRun) (end : End) (calls : List MadeCall) →
+    end ≢ Going → Comes code room n r (Some end) calls
     → (k : ℕ) × (k ≤ room) × HasEnd end (run code k r) × ((run code k r).calls ≡ calls)
 ended_comes code room n r Going calls other h = absurd (other refl)
 ended_comes code room n r (Answered x y) calls other h = h
@@ -329,16 +425,19 @@ ended_comes code room n r (Trapped x) calls other h = h
 ended_comes code room n r DividedByZero calls other h = h
 ended_comes code room n r (Asks x) calls other h = h
 
-forth_by : (code : List Instr) (room n most : ℕ) (r : CodeRun) (end : End) (calls : List MadeCall) → end ≢ Going → room ≤ most
+forth_by : (code : List Instr) (room n most : ℕ) (r : CodeRun) (end : End) (calls : List MadeCall) →
+    end ≢ Going → room ≤ most
     → Comes code room n r (Some end) calls → (end_of (run code most r) ≡ Some end) × ((run code most r).calls ≡ calls)
 forth_by code room n most r end calls other fits h =
     let c = ended_comes code room n r end calls other h in
     let halt = has_halt end (run code c.0 r) c.2 other in
     let same : c.0 + (most - c.0) ≡ most = omega (arith, c.1, fits) in
-    let e : run code most r ≡ run code c.0 r = ap (λ k. run code k r) (sym same) ∙ over_later code c.0 (most - c.0) r halt.0 halt.1 in
+    let e : run code most r ≡ run code c.0 r = ap (λ k. run code k r) (sym same)
+    ∙ over_later code c.0 (most - c.0) r halt.0 halt.1 in
     (ap end_of e ∙ end_is end (run code c.0 r) c.2, ap (λ (u : CodeRun). u.calls) e ∙ c.3)
 
-back_by : (code : List Instr) (room n : ℕ) (r : CodeRun) (end : End) (calls : List MadeCall) → end ≢ Going → end_of (run code n r) ≡ Some end
+back_by : (code : List Instr) (room n : ℕ) (r : CodeRun) (end : End) (calls : List MadeCall) →
+    end ≢ Going → end_of (run code n r) ≡ Some end
     → (o : Option End) → Comes code room n r o calls → (o ≡ Some end) × (calls ≡ (run code n r).calls)
 back_by code room n r end calls other is None h = absurd h
 back_by code room n r end calls other is (Some e) h = by e h
@@ -352,13 +451,18 @@ back_by code room n r end calls other is (Some e) h = by e h
         let stop = has_halt e (run code c.0 r) c.2 real in
         let turned : n + c.0 ≡ c.0 + n = omega arith in
         let same : run code n r ≡ run code c.0 r =
-        sym (over_later code n c.0 r halt.0 halt.1) ∙ ap (λ k. run code k r) turned ∙ over_later code c.0 n r stop.0 stop.1 in
-        (sym (end_is e (run code c.0 r) c.2) ∙ ap end_of (sym same) ∙ is, sym c.3 ∙ ap (λ (u : CodeRun). u.calls) (sym same))
+        sym (over_later code n c.0 r halt.0 halt.1) ∙ ap (λ k. run code k r) turned
+        ∙ over_later code c.0 n r stop.0 stop.1 in (
+          sym (end_is e (run code c.0 r) c.2) ∙ ap end_of (sym same) ∙ is,
+          sym c.3
+              ∙ ap (λ (u : CodeRun). u.calls) (sym same),
+        )
 
     by : (e : End) → Comes code room n r (Some e) calls → (Some e ≡ Some end) × (calls ≡ (run code n r).calls)
     by Going c =
         let same : n + (c.0 - n) ≡ c.0 = omega (arith, c.1) in
-        let e : run code c.0 r ≡ run code n r = ap (λ k. run code k r) (sym same) ∙ over_later code n (c.0 - n) r halt.0 halt.1 in
+        let e : run code c.0 r ≡ run code n r = ap (λ k. run code k r) (sym same)
+        ∙ over_later code n (c.0 - n) r halt.0 halt.1 in
         let wrong : None ≡ Some halt.0 = sym c.2 ∙ ap (λ (u : CodeRun). u.ended) e ∙ halt.1 in absurd cc
     by (Answered x y) c = ended (Answered x y) c (λ z. cc)
     by (Trapped x) c = ended (Trapped x) c (λ z. cc)
@@ -368,7 +472,8 @@ back_by code room n r end calls other is (Some e) h = by e h
 -- all instructions of each turn, and once more
 enough : (n first len : ℕ) → first + (len + n * len) + 5 ≤ (n + 1) * (first + (len + 5))
 enough n first len =
-    let a : (n + 1) * (first + (len + 5)) ≡ n * (first + (len + 5)) + 1 * (first + (len + 5)) = two_turns n 1 (first + (len + 5)) in
+    let a : (n + 1) * (first + (len + 5)) ≡ n * (first + (len + 5)) + 1 * (first + (len + 5)) =
+    two_turns n 1 (first + (len + 5)) in
     let b : n * (first + (len + 5)) ≡ n * len + n * (first + 5) = grind arith in omega (arith, a, b)
 
 -- how many instructions the statements of a program have
@@ -379,15 +484,26 @@ pub programs_run : ProgramsRun
 programs_run v p least low fits =
     record {
       forth = λ segment xs answers n end small words other is.
-          forth_by (program_code v p) (length (prologue v) + (body_length v p + n * body_length v p) + 5) n ((n + 1) * length (program_code v p))
+          forth_by (program_code v p) (length (prologue v) + (body_length v p + n * body_length v p)
+          + 5) n ((n + 1) * length (program_code v p))
           (first_run 262144 segment xs answers) end (said p xs answers n).calls other
-          (subst (λ k. length (prologue v) + (body_length v p + n * body_length v p) + 5 ≤ (n + 1) * k) (sym long) (enough n (length (prologue v)) (body_length v p)))
-          (subst (λ (o : Option End). Comes (program_code v p) (length (prologue v) + (body_length v p + n * body_length v p) + 5) n (first_run 262144 segment xs answers) o (said p xs answers n).calls)
+          (subst (λ k. length (prologue v) + (body_length v p + n * body_length v p) + 5
+          ≤ (n + 1) * k) (sym long) (enough n (length (prologue v)) (body_length v p)))
+          (subst (λ (o : Option End). Comes (program_code v p)
+          (length (prologue v) + (body_length v p + n * body_length v p) + 5) n
+          (first_run 262144 segment xs answers) o (said p xs answers n).calls)
           is (comes v p segment xs answers n least low fits small words));
       back = λ segment xs answers n end small words other is.
-          back_by (program_code v p) (length (prologue v) + (body_length v p + n * body_length v p) + 5) n (first_run 262144 segment xs answers) end (said p xs answers n).calls other is
+          back_by (program_code v p) (length (prologue v) + (body_length v p + n * body_length v p)
+          + 5) n (first_run 262144 segment xs answers) end (said p xs answers n).calls other is
           (said p xs answers n).ended (comes v p segment xs answers n least low fits small words);
     }
   where
     long : length (program_code v p) ≡ length (prologue v) + (length (statements_code v (length (prologue v)) p) + 5)
-    long = omega (arith, length-append (prologue v) (statements_code v (length (prologue v)) p ++ epilogue), length-append (statements_code v (length (prologue v)) p) epilogue)
+    long =
+        omega (
+          arith,
+          length-append (prologue v) (statements_code v (length (prologue v)) p
+              ++ epilogue),
+          length-append (statements_code v (length (prologue v)) p) epilogue,
+        )

@@ -7,23 +7,23 @@ use Rattle.std.proofs.Common.{arith, refl, sym, ap, ◌∙◌}
 use Rattle.std.proofs.lemmas.Bool.Decides.{nat_tests}
 use Rattle.std.proofs.lemmas.List.{length-append, length-set, append_assoc, append-nil, set-append_left}
 use Rattle.std.proofs.Math.Seq.{set-append_seam}
-use Rattle.kernel_model.specs.declared.Instr.{Instr}
-use Rattle.kernel_model.specs.declared.Op.TheVariants.{Li, Jmp, Jz}
-use Rattle.kernel_model.specs.Boxed.{instr}
-use Rattle.kernel_model.specs.declared.language.Symbol.{Symbol}
-use Rattle.kernel_model.specs.declared.language.Symbol.TheVariants.{If, Else, While, Trap as trap, Answer, Assign}
-use Rattle.kernel_model.specs.declared.language.Symbol.TheVariants.{Semicolon, OpenBrace, CloseBrace, CloseParenthesis}
-use Rattle.kernel_model.specs.declared.language.Symbol.TheVariants.{OpenParenthesis, Comma}
+use Rattle.graft_texts.specs.declared.Instr.{Instr}
+use Rattle.graft_texts.specs.declared.Op.TheVariants.{Li, Jmp, Jz}
+use Rattle.graft_texts.specs.Boxed.{instr}
+use Rattle.graft_texts.specs.declared.language.Symbol.{Symbol}
+use Rattle.graft_texts.specs.declared.language.Symbol.TheVariants.{If, Else, While, Trap as trap, Answer, Assign}
+use Rattle.graft_texts.specs.declared.language.Symbol.TheVariants.{Semicolon, OpenBrace, CloseBrace, CloseParenthesis}
+use Rattle.graft_texts.specs.declared.language.Symbol.TheVariants.{OpenParenthesis, Comma}
 use Rattle.graft_syntax.specs.declared.Token as code
 use Rattle.graft_syntax.specs.declared.Token.TheVariants as token
 use Rattle.graft_syntax.specs.Views.{token_view}
-use Rattle.kernel_model.specs.LanguageTokens.{Token, Number, Variable, Callable, Infix, Mark, same_symbol}
-use Rattle.kernel_model.specs.LanguageGrammar.{Expression, Literal, Named, Binary, Program, Done, Assigns, Calls, When}
-use Rattle.kernel_model.specs.LanguageGrammar.{Either, Loops, Traps, Answers, spelled_expression, spelled_more}
-use Rattle.kernel_model.specs.LanguageGrammar.{spelled_arguments, spelled_statements}
-use Rattle.kernel_model.specs.LanguageReading.{number_of}
-use Rattle.kernel_model.specs.LanguageMeaning as l
-use Rattle.kernel_model.specs.LanguageMeaning.{numbered_expression, numbered}
+use Rattle.graft_texts.specs.LanguageTokens.{Token, Number, Variable, Callable, Infix, Mark, same_symbol}
+use Rattle.graft_texts.specs.LanguageGrammar.{Expression, Literal, Named, Binary, Program, Done, Assigns, Calls, When}
+use Rattle.graft_texts.specs.LanguageGrammar.{Either, Loops, Traps, Answers, spelled_expression, spelled_more}
+use Rattle.graft_texts.specs.LanguageGrammar.{spelled_arguments, spelled_statements}
+use Rattle.graft_texts.specs.LanguageReading.{number_of}
+use Rattle.graft_texts.specs.LanguageMeaning as l
+use Rattle.graft_texts.specs.LanguageMeaning.{numbered_expression, numbered}
 use Rattle.graft_lang.specs.Code.{fetches, puts, expression_code, arguments_code, statements_code}
 use Rattle.graft_lang.specs.Writing.{Writing, skipped, appended, with_first, patched, WritesExpression}
 use Rattle.graft_lang.specs.Writing.{WritesOperation, callable_next, behind_callable, symbol_next, behind_symbol}

@@ -1,11 +1,11 @@
 -- What is known of texts that are accepted.
 use Rattle.std.specs.Prelude.{◌≡◌, ℕ, List, length, Ok}
-use Rattle.kernel_model.specs.Boxed.{boxed_code, rewrite}
-use Rattle.kernel_model.specs.LanguageGrammar as grammar
-use Rattle.kernel_model.specs.LanguageReading.{Syntax, read}
-use Rattle.kernel_model.specs.LanguageMeaning.{numbered}
+use Rattle.graft_texts.specs.Boxed.{boxed_code, rewrite}
+use Rattle.graft_texts.specs.LanguageGrammar as grammar
+use Rattle.graft_texts.specs.LanguageReading.{Syntax, read}
+use Rattle.graft_texts.specs.LanguageMeaning.{numbered}
 use Rattle.graft_lang.specs.Code.{program_code}
-use Rattle.kernel_model.specs.LanguageImages.{Behaves}
+use Rattle.graft_texts.specs.LanguageImages.{Behaves}
 
 -- The code of the program that an accepted text spells does what the program says, and the rewriter
 -- takes it.

@@ -1,7 +1,7 @@
 -- Programs whose code does what they say.
 use Rattle.std.specs.Prelude.{ℕ, ◌<◌, ◌≤◌}
-use Rattle.kernel_model.specs.LanguageMeaning.{Program}
-use Rattle.kernel_model.specs.LanguageImages.{Behaves}
+use Rattle.graft_texts.specs.LanguageMeaning.{Program}
+use Rattle.graft_texts.specs.LanguageImages.{Behaves}
 use Rattle.graft_lang.specs.Code.{program_code}
 use Rattle.graft_lang.specs.Going.{FitsProgram}
 

@@ -1,15 +1,15 @@
 -- The code of a program. Variable i is kept in word i of the segment, operands in the words behind
 -- the variables. r4 has values, r5 addresses, r6 left operands; r14 and r15 are never named.
 use Rattle.std.specs.Prelude.{ℕ, zero, suc, ◌+◌, ◌-◌, ◌*◌, List, [], ◌∷◌, ◌++◌, length}
-use Rattle.kernel_model.specs.declared.Instr.{Instr}
-use Rattle.kernel_model.specs.declared.Op.TheVariants.{Li, Mov, Ldw, Stw, Add, Sub, Mul, And, Or, Xor, Shl, Shr}
-use Rattle.kernel_model.specs.declared.Op.TheVariants.{Divu, Remu, Sltu, Jmp, Jz, Call, Trap, Ret}
-use Rattle.kernel_model.specs.Boxed.{instr}
-use Rattle.kernel_model.specs.declared.language.Operator.{Operator}
-use Rattle.kernel_model.specs.declared.language.Operator.TheVariants as operator
-use Rattle.kernel_model.specs.LanguageMeaning.{Expression, Number, Variable, Binary, Program, Done, Assigns, Calls}
-use Rattle.kernel_model.specs.LanguageMeaning.{When}
-use Rattle.kernel_model.specs.LanguageMeaning.{Either, Loops, Traps, Answers}
+use Rattle.graft_texts.specs.declared.Instr.{Instr}
+use Rattle.graft_texts.specs.declared.Op.TheVariants.{Li, Mov, Ldw, Stw, Add, Sub, Mul, And, Or, Xor, Shl, Shr}
+use Rattle.graft_texts.specs.declared.Op.TheVariants.{Divu, Remu, Sltu, Jmp, Jz, Call, Trap, Ret}
+use Rattle.graft_texts.specs.Boxed.{instr}
+use Rattle.graft_texts.specs.declared.language.Operator.{Operator}
+use Rattle.graft_texts.specs.declared.language.Operator.TheVariants as operator
+use Rattle.graft_texts.specs.LanguageMeaning.{Expression, Number, Variable, Binary, Program, Done, Assigns, Calls}
+use Rattle.graft_texts.specs.LanguageMeaning.{When}
+use Rattle.graft_texts.specs.LanguageMeaning.{Either, Loops, Traps, Answers}
 
 -- the word of a slot of the segment to a register: r5 has its address
 abbrev pub fetches : (reg slot : ℕ) → List Instr

@@ -1,11 +1,11 @@
 -- How far the code of statements comes, beside what the statements do.
 use Rattle.std.specs.Prelude.{◌≡◌, ℕ, suc, ◌+◌, ◌*◌, ◌^◌, ◌<◌, ◌≤◌, List, [], ◌∷◌, length, Option, Some, None, ⊤}
-use Rattle.kernel_model.specs.declared.Instr.{Instr}
-use Rattle.kernel_model.specs.Machine.{masked_place}
-use Rattle.kernel_model.specs.Runs.{CodeRun, MadeCall, Unanswered, AtReturn, AtDivision, AtTrap, run_by}
-use Rattle.kernel_model.specs.LanguageMeaning.{Expression, Program, Done, Assigns, Calls, When, Either, Loops, Traps}
-use Rattle.kernel_model.specs.LanguageMeaning.{Answers, End, Answered, Trapped, DividedByZero, Asks, Going, State, does}
-use Rattle.kernel_model.specs.LanguageImages.{AreWords}
+use Rattle.graft_texts.specs.declared.Instr.{Instr}
+use Rattle.graft_texts.specs.Machine.{masked_place}
+use Rattle.graft_texts.specs.Runs.{CodeRun, MadeCall, Unanswered, AtReturn, AtDivision, AtTrap, run_by}
+use Rattle.graft_texts.specs.LanguageMeaning.{Expression, Program, Done, Assigns, Calls, When, Either, Loops, Traps}
+use Rattle.graft_texts.specs.LanguageMeaning.{Answers, End, Answered, Trapped, DividedByZero, Asks, Going, State, does}
+use Rattle.graft_texts.specs.LanguageImages.{AreWords}
 use Rattle.graft_lang.specs.Code.{statements_code}
 use Rattle.graft_lang.specs.Placing.{Fits, Stands, IsAt}
 

@@ -1,10 +1,10 @@
 -- How the code of a program and its meaning belong together while it runs.
 use Rattle.std.specs.Prelude.{◌≡◌, ℕ, suc, ◌+◌, ◌*◌, ◌^◌, ◌<◌, ◌≤◌, List, [], ◌∷◌, length, slice_get, Option}
 use Rattle.std.specs.Prelude.{Some, None, ⊤}
-use Rattle.kernel_model.specs.declared.Instr.{Instr}
-use Rattle.kernel_model.specs.Machine.{Word, load, masked_place}
-use Rattle.kernel_model.specs.Runs.{CodeRun, MadeCall, AtDivision, run_by}
-use Rattle.kernel_model.specs.LanguageMeaning.{Expression, Number, Variable, Binary, value}
+use Rattle.graft_texts.specs.declared.Instr.{Instr}
+use Rattle.graft_texts.specs.Machine.{Word, load, masked_place}
+use Rattle.graft_texts.specs.Runs.{CodeRun, MadeCall, AtDivision, run_by}
+use Rattle.graft_texts.specs.LanguageMeaning.{Expression, Number, Variable, Binary, value}
 use Rattle.graft_lang.specs.Code.{expression_code}
 
 -- there are so many variables, numbers are words, and there is room for operands

@@ -1,9 +1,9 @@
 -- How long the boxed code of a program is, by its tokens.
 use Rattle.std.specs.Prelude.{◌≡◌, ℕ, ◌+◌, ◌*◌, ◌<◌, ◌≤◌, List, [], ◌∷◌, length, Ok, ⊤}
-use Rattle.kernel_model.specs.Boxed.{boxed_place, boxed_code, rewrite}
-use Rattle.kernel_model.specs.LanguageMeaning.{Expression, Number, Variable, Binary, Program, Done, Assigns, Calls}
-use Rattle.kernel_model.specs.LanguageMeaning.{When}
-use Rattle.kernel_model.specs.LanguageMeaning.{Either, Loops, Traps, Answers}
+use Rattle.graft_texts.specs.Boxed.{boxed_place, boxed_code, rewrite}
+use Rattle.graft_texts.specs.LanguageMeaning.{Expression, Number, Variable, Binary, Program, Done, Assigns, Calls}
+use Rattle.graft_texts.specs.LanguageMeaning.{When}
+use Rattle.graft_texts.specs.LanguageMeaning.{Either, Loops, Traps, Answers}
 use Rattle.graft_lang.specs.Code.{program_code}
 
 -- how many tokens an expression has

@@ -2,20 +2,20 @@
 -- appended.
 use Rattle.std.specs.Prelude.{◌≡◌, ℕ, suc, ◌+◌, ◌*◌, ◌≤◌, Bool, true, false, cond, nat_lt, List, [], ◌∷◌}
 use Rattle.std.specs.Prelude.{◌++◌, length, map, drop, set, Option, None, Some, is_some}
-use Rattle.kernel_model.specs.declared.Instr.{Instr}
-use Rattle.kernel_model.specs.declared.Op.TheVariants.{Li, Mov, Jmp, Jz, Call, Trap, Ret}
-use Rattle.kernel_model.specs.Boxed.{instr}
-use Rattle.kernel_model.specs.declared.language.Operator.{Operator}
-use Rattle.kernel_model.specs.declared.language.Operator.TheVariants.{Plus}
-use Rattle.kernel_model.specs.declared.language.Symbol.{Symbol}
-use Rattle.kernel_model.specs.declared.language.Symbol.TheVariants.{Else, Semicolon, OpenBrace, CloseBrace}
-use Rattle.kernel_model.specs.declared.language.Symbol.TheVariants.{OpenParenthesis, CloseParenthesis, Comma}
-use Rattle.kernel_model.specs.LanguageTokens.{Token, Number, Callable, Infix, Mark, same_symbol}
-use Rattle.kernel_model.specs.LanguageGrammar.{Expression, Binary, Program, spelled_expression, spelled_arguments}
-use Rattle.kernel_model.specs.LanguageGrammar.{spelled_statements, spelled}
-use Rattle.kernel_model.specs.LanguageReading.{Syntax}
-use Rattle.kernel_model.specs.LanguageMeaning as l
-use Rattle.kernel_model.specs.LanguageMeaning.{numbered_expression, numbered}
+use Rattle.graft_texts.specs.declared.Instr.{Instr}
+use Rattle.graft_texts.specs.declared.Op.TheVariants.{Li, Mov, Jmp, Jz, Call, Trap, Ret}
+use Rattle.graft_texts.specs.Boxed.{instr}
+use Rattle.graft_texts.specs.declared.language.Operator.{Operator}
+use Rattle.graft_texts.specs.declared.language.Operator.TheVariants.{Plus}
+use Rattle.graft_texts.specs.declared.language.Symbol.{Symbol}
+use Rattle.graft_texts.specs.declared.language.Symbol.TheVariants.{Else, Semicolon, OpenBrace, CloseBrace}
+use Rattle.graft_texts.specs.declared.language.Symbol.TheVariants.{OpenParenthesis, CloseParenthesis, Comma}
+use Rattle.graft_texts.specs.LanguageTokens.{Token, Number, Callable, Infix, Mark, same_symbol}
+use Rattle.graft_texts.specs.LanguageGrammar.{Expression, Binary, Program, spelled_expression, spelled_arguments}
+use Rattle.graft_texts.specs.LanguageGrammar.{spelled_statements, spelled}
+use Rattle.graft_texts.specs.LanguageReading.{Syntax}
+use Rattle.graft_texts.specs.LanguageMeaning as l
+use Rattle.graft_texts.specs.LanguageMeaning.{numbered_expression, numbered}
 use Rattle.graft_lang.specs.Code.{fetches, puts, expression_code, arguments_code, registers_code, statements_code}
 use Rattle.graft_lang.specs.Code.{program_code}
 

@@ -6,7 +6,7 @@ ghost use Rattle.graft_lang.specs.Writing.{WritesCall};
 
 use crate::variables::Variables;
 use crate::writer::{VALUE, Writer, instr, load_number};
-use gm_isa::Op;
+use gm_image::Op;
 use graft_syntax::{NoMemory, Symbol};
 
 impl<'t, 'a> Writer<'t, 'a> {

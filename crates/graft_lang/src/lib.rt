@@ -3,8 +3,8 @@
 
 ghost use Rattle.std.specs.Prelude.{◌≤◌, length, IfOk, IfErr};
 ghost use Rattle.graft_syntax.specs.Faults.{Refuses};
-ghost use Rattle.kernel_model.specs.LanguageReading as spec;
-ghost use Rattle.kernel_model.specs.LanguageImages.{IsCompiled};
+ghost use Rattle.graft_texts.specs.LanguageReading as spec;
+ghost use Rattle.graft_texts.specs.LanguageImages.{IsCompiled};
 
 mod calls;
 mod expressions;

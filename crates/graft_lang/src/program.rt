@@ -1,10 +1,10 @@
 //! The code of statements.
 
 ghost use Rattle.std.specs.Prelude.{◌≡◌, ◌+◌, ◌*◌, ◌<◌, ◌≤◌, ◌-◌, length, true, false, IfOk, OnOk};
-ghost use Rattle.kernel_model.specs.Boxed.{instr};
-ghost use Rattle.kernel_model.specs.Instructions.{fits};
+ghost use Rattle.graft_texts.specs.Boxed.{instr};
+ghost use Rattle.graft_texts.specs.Instructions.{fits};
 ghost use Rattle.graft_syntax.specs.Views.{token_view};
-ghost use Rattle.kernel_model.specs.LanguageTokens as token;
+ghost use Rattle.graft_texts.specs.LanguageTokens as token;
 ghost use Rattle.graft_lang.specs.Writing.{Uses, HasRoom, with_first, closes_block, WritesValue};
 ghost use Rattle.graft_lang.specs.Writing.{WritesTrap};
 ghost use Rattle.graft_lang.specs.Writing.{WritesAnswer, WritesStatements, WritesBlock, WritesElse};
@@ -14,7 +14,7 @@ ghost use Rattle.std.specs.List.{list_all};
 
 use crate::variables::Variables;
 use crate::writer::{VALUE, Writer, instr, load_number};
-use gm_isa::{Instr, Op};
+use gm_image::{Instr, Op};
 use graft_syntax::{NoMemory, Symbol, Syntax, Token};
 use std::alloc::Global;
 

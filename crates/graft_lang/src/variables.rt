@@ -1,7 +1,7 @@
 //! The variables of a program.
 
 ghost use Rattle.std.specs.Prelude.{◌≡◌, ◌≤◌, length};
-ghost use Rattle.kernel_model.specs.LanguageReading as spec;
+ghost use Rattle.graft_texts.specs.LanguageReading as spec;
 
 use graft_syntax::Syntax;
 use std::marker::Model;

@@ -3,15 +3,15 @@
 ghost use Rattle.std.specs.Prelude.{◌≡◌, ◌+◌, ◌*◌, ◌<◌, ◌≤◌, ◌↔◌, [], ◌∷◌, length, map, drop};
 ghost use Rattle.std.specs.Prelude.{true, false, IsTrue, IfOk, OnOk, MatchOption};
 ghost use Rattle.std.specs.List.{list_all};
-ghost use Rattle.kernel_model.specs.Boxed.{instr};
-ghost use Rattle.kernel_model.specs.Instructions.{fits};
+ghost use Rattle.graft_texts.specs.Boxed.{instr};
+ghost use Rattle.graft_texts.specs.Instructions.{fits};
 ghost use Rattle.graft_syntax.specs.Views.{token_view};
 ghost use Rattle.graft_lang.specs.Writing.{skipped, appended, patched, with_first, symbol_next};
 ghost use Rattle.graft_lang.specs.Writing.{behind_symbol, callable_next, behind_callable};
 ghost use Rattle.graft_lang.specs.Writing.{number_next, is_block_end, closes_block};
 ghost use Rattle.graft_lang.specs.Code.{fetches, puts, operator_code};
 
-use gm_isa::{Instr, Op};
+use gm_image::{Instr, Op};
 use graft_syntax::{NoMemory, Operator, Symbol, Token, same_symbol};
 use std::alloc::Global;
 use std::marker::Model;
@@ -35,7 +35,7 @@ pub struct Writer<'t, 'a> {
 impl<'t, 'a> Model for Writer<'t, 'a> {
     ghost use Rattle.std.specs.Prelude.{◌≡◌, map, true};
     ghost use Rattle.std.specs.List.{list_all};
-    ghost use Rattle.kernel_model.specs.Instructions.{fits};
+    ghost use Rattle.graft_texts.specs.Instructions.{fits};
     ghost use Rattle.graft_syntax.specs.Views.{token_view};
     ghost use Rattle.graft_lang.specs.Writing.{Writing};
 

@@ -4,7 +4,9 @@ use Rattle.std.proofs.Common.{refl}
 use Rattle.kernel_model.specs.declared.Instr.{Instr}
 use Rattle.kernel_model.specs.declared.Op.{Op}
 use Rattle.kernel_model.specs.declared.Op.TheVariants.{Divu, Remu, Ldw, Stw, Ldb, Stb, Jz, Jnz}
-use Rattle.kernel_model.specs.Machine.{Machine, Done, Called, Width, Word, Byte, Places, segment_place, sets, jumps, reads, writes, exec, called_id, next_call, seg_step}
+use Rattle.kernel_model.specs.Machine.{Machine, Done, Called, Width, Word, Byte, Places}
+use Rattle.kernel_model.specs.Machine.{segment_place, sets, jumps, reads, writes, exec, called_id}
+use Rattle.kernel_model.specs.Machine.{next_call, seg_step}
 
 -- the id that was called
 abbrev pub called_in : Done → Option ℕ
@@ -20,15 +22,18 @@ writes_none m width v None = refl
 writes_none m width v (Some x) = refl
 
 -- a quotient, or none
-sets_none : (b : Bool) (m : Machine) (a x : ℕ) → called_in (elim b as (λ _. Done) [ true ↦ Done.DividedByZero | false ↦ sets m a x ]) ≡ None
+sets_none : (b : Bool) (m : Machine) (a x : ℕ) →
+    called_in (elim b as (λ _. Done) [ true ↦ Done.DividedByZero | false ↦ sets m a x ]) ≡ None
 sets_none true m a x = refl
 sets_none false m a x = refl
 
-jumps_none : (b : Bool) (m : Machine) (x y : ℕ) → called_in (elim b as (λ _. Done) [ true ↦ jumps m x | false ↦ jumps m y ]) ≡ None
+jumps_none : (b : Bool) (m : Machine) (x y : ℕ) →
+    called_in (elim b as (λ _. Done) [ true ↦ jumps m x | false ↦ jumps m y ]) ≡ None
 jumps_none true m x y = refl
 jumps_none false m x y = refl
 
-exec_calls : (place : Places) (op : Op) (a b c imm : ℕ) (m : Machine) → called_in (exec place op a b c imm m) ≡ called_id op a imm m
+exec_calls : (place : Places) (op : Op) (a b c imm : ℕ) (m : Machine) →
+    called_in (exec place op a b c imm m) ≡ called_id op a imm m
 exec_calls place Divu a b c imm m = sets_none (m.regs c == 0) m a (m.regs b / m.regs c)
 exec_calls place Remu a b c imm m = sets_none (m.regs c == 0) m a (m.regs b % m.regs c)
 exec_calls place Ldw a b c imm m = reads_none m Word a (place m Word (m.regs b))

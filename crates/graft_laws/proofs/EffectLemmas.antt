@@ -1,51 +1,36 @@
 -- What effects that are made again change: accounts and grafts that level 0 holds, and what level 0 holds.
-use Rattle.std.specs.Prelude.{◌≡◌, ◌≢◌, ℕ, Bool, true, false, List, [], ◌∷◌, Option, Some, None, is_some, ⊤}
-use Rattle.std.proofs.Common.{◌⊎◌, refl, subst, sym, ap, ◌∙◌, inl, inr}
+use Rattle.std.specs.Prelude.{◌≡◌, ℕ, true, false, List, [], ◌∷◌, Some, is_some, ⊤}
+use Rattle.std.proofs.Common.{◌⊎◌, refl, subst, sym, ◌∙◌, inl, inr}
 use Rattle.std.proofs.lemmas.Bool.{and_parts}
 use Rattle.kernel_model.specs.declared.Held.{Held}
-use Rattle.kernel_model.specs.declared.Kind.{Kind}
 use Rattle.kernel_model.specs.declared.Object.{Object}
 use Rattle.kernel_model.specs.declared.Object.TheVariants.{Graft, Acct, Cell, OpenFile, Queue, Cache, Lock, Pol}
 use Rattle.kernel_model.specs.World.{World}
-use Rattle.kernel_model.specs.Objects.{Objects, Accounts, Things, GraftValue, SameAt, with_accounts, at2, same_object}
+use Rattle.kernel_model.specs.Objects.{Objects, Accounts, Things, SameAt, with_accounts, same_object}
 use Rattle.kernel_model.specs.SameObject.{same_object_is}
-use Rattle.kernel_model.specs.Charges.{pay, spend, taken_from, returned, charge, charge_by, charge_account, charge_graft, removed, removed_by}
+use Rattle.kernel_model.specs.Charges.{charge}
+use Rattle.kernel_model.specs.Charges.{removed}
 use Rattle.kernel_model.specs.Locks.{is_held}
-use Rattle.kernel_model.specs.Levels.{Level, Config, Effect, Asked, Charged, Removed, touch_outermost, outermost_touched}
+use Rattle.kernel_model.specs.Levels.{Level, Config, Effect, Asked, Charged, Removed}
+use Rattle.kernel_model.specs.Levels.{touch_outermost, outermost_touched}
 use Rattle.kernel_model.specs.History.{effect, effects_on}
 use Rattle.kernel_model.specs.InPlace.{is_changed_in}
 use Rattle.kernel_model.specs.Sound.{IsSoundStore}
 use Rattle.kernel_model.specs.Alike.{is_held_in}
-use Rattle.plain_rules.specs.Ledgers.{at_other}
-use Rattle.kernel_laws.proofs.StoreLemmas.{found_at, charge_store, removed_store}
-use Rattle.kernel_laws.proofs.LevelLemmas.{KeepOn, keep_self, keep_touch, keep_then}
+use Rattle.kernel_laws.proofs.StoreLemmas.{charge_store, removed_store}
+use Rattle.kernel_laws.proofs.LevelLemmas.{KeepOn, keep_self, keep_touch, keep_then, outer_changed}
 use Rattle.graft_laws.proofs.PointLemmas.{or_right, or_left}
-use Rattle.graft_laws.proofs.HoldLemmas.{touch_outermost_from, touch_outermost_changed, touch_outermost_outer, outermost_changed}
-use Rattle.graft_laws.proofs.GrownLemmas.{AreGrown, grown_self, grown_then, grown_touch, grown_changed, grown_outermost, grown_unchanged}
+use Rattle.graft_laws.proofs.HoldLemmas.{touch_outermost_from, touch_outermost_changed}
+use Rattle.graft_laws.proofs.HoldLemmas.{touch_outermost_outer}
+use Rattle.graft_laws.proofs.GrownLemmas.{AreGrown, grown_self, grown_then, grown_touch}
+use Rattle.graft_laws.proofs.GrownLemmas.{grown_changed, grown_outermost, grown_unchanged}
 use Rattle.graft_laws.proofs.TurnParts.{StandsFrom, charged_stood, removed_stood}
 use Rattle.graft_laws.proofs.MarkLemmas.{effects_split, charged_split, removed_split}
+use Rattle.kernel_laws.proofs.FrameLemmas.{same_then, DifferAt, differ_frame}
+use Rattle.kernel_laws.proofs.FrameLemmas.{charge_differs, remove_differs, other_than}
+use Rattle.call_laws.specs.FileChanges.{same_self}
 
 -- ---- the same value
-
-pub same_self : (o : Object) (w : Objects) → SameAt o w w
-same_self (Graft q pt) w = (refl, refl)
-same_self (Acct q) w = refl
-same_self (Cell q k) w = refl
-same_self (OpenFile q fd) w = refl
-same_self Queue w = (refl, refl)
-same_self Cache w = refl
-same_self (Lock u) w = refl
-same_self (Pol k) w = refl
-
-pub same_then : (o : Object) (x y z : Objects) → SameAt o x y → SameAt o y z → SameAt o x z
-same_then (Graft q pt) x y z h k = (h.0 ∙ k.0, h.1 ∙ k.1)
-same_then (Acct q) x y z h k = h ∙ k
-same_then (Cell q i) x y z h k = h ∙ k
-same_then (OpenFile q fd) x y z h k = h ∙ k
-same_then Queue x y z h k = (h.0 ∙ k.0, h.1 ∙ k.1)
-same_then Cache x y z h k = h ∙ k
-same_then (Lock u) x y z h k = h ∙ k
-same_then (Pol i) x y z h k = h ∙ k
 
 pub same_back : (o : Object) (x y : Objects) → SameAt o x y → SameAt o y x
 same_back (Graft q pt) x y h = (sym h.0, sym h.1)
@@ -58,52 +43,6 @@ same_back (Lock u) x y h = sym h
 same_back (Pol i) x y h = sym h
 
 -- ---- accounts that differ in a graft and its installer's account alone
-
-pub record DifferAt (q pt : ℕ) (a b : Accounts) : Type 0 where
-  pub graft : (r pu : ℕ) → Graft r pu ≢ Graft q pt → a.graft r pu ≡ b.graft r pu
-  pub acct : (r : ℕ) → r ≢ q → a.acct r ≡ b.acct r
-
-pub differ_frame : (q pt : ℕ) (a b : Accounts) (x : Things) (o : Object) → DifferAt q pt a b → o ≢ Graft q pt → o ≢ Acct q →
-    SameAt o (record { accounts = a; things = x }) (record { accounts = b; things = x })
-differ_frame q pt a b x (Graft r pu) h g k = (h.graft r pu g, refl)
-differ_frame q pt a b x (Acct r) h g k = h.acct r (λ e. k (ap Acct e))
-differ_frame q pt a b x (Cell r i) h g k = refl
-differ_frame q pt a b x (OpenFile r fd) h g k = refl
-differ_frame q pt a b x Queue h g k = (refl, refl)
-differ_frame q pt a b x Cache h g k = refl
-differ_frame q pt a b x (Lock u) h g k = refl
-differ_frame q pt a b x (Pol i) h g k = refl
-
-other_graft : (q pt r pu : ℕ) (x : Option GraftValue) (f : ℕ → ℕ → Option GraftValue) → Graft r pu ≢ Graft q pt → at2 q pt x f r pu ≡ f r pu
-other_graft q pt r pu x f ne = elim (found_at q pt r pu x f) [
-  | inl here ↦ absurd (ne (ap (λ i. Graft i pu) here.0 ∙ ap (λ i. Graft q i) here.1))
-  | inr other ↦ other
-]
-
-pub charge_differs : (k : Kind) (q pt : ℕ) (a : Accounts) → DifferAt q pt (charge k q pt a) a
-charge_differs k q pt a = differs_by (a.graft q pt)
-  where
-    differs_if : (billed : Bool) (g : GraftValue) → DifferAt q pt (elim billed as (λ _. Accounts) [ true ↦ charge_account k q a | false ↦ charge_graft k q pt g a ]) a
-    differs_if true g = record { graft = λ r pu ne. refl; acct = λ r ne. at_other q r (pay k (a.acct q)) a.acct ne }
-    differs_if false g = record { graft = λ r pu ne. other_graft q pt r pu (Some (taken_from k g)) a.graft ne; acct = λ r ne. at_other q r (spend k (a.acct q)) a.acct ne }
-
-    differs_by : (g : Option GraftValue) → DifferAt q pt (charge_by k q pt g a) a
-    differs_by None = record { graft = λ r pu ne. refl; acct = λ r ne. refl }
-    differs_by (Some g) = differs_if g.billed g
-
-pub remove_differs : (q pt : ℕ) (a : Accounts) → DifferAt q pt (removed q pt a) a
-remove_differs q pt a = differs_by (a.graft q pt)
-  where
-    differs_by : (g : Option GraftValue) → DifferAt q pt (removed_by q pt g a) a
-    differs_by None = record { graft = λ r pu ne. refl; acct = λ r ne. refl }
-    differs_by (Some g) = record { graft = λ r pu ne. other_graft q pt r pu None a.graft ne; acct = λ r ne. at_other q r (returned g (a.acct q)) a.acct ne }
-
--- what isn't held exclusively is another object
-pub other_than : (ls : List Level) (o x : Object) → is_changed_in ls o ≡ false → is_changed_in ls x ≡ true → o ≢ x
-other_than ls o x none some e = contrary (sym some ∙ ap (is_changed_in ls) (sym e) ∙ none)
-  where
-    contrary : true ≡ false → ⊥
-    contrary h = cc
 
 -- ---- what effects change
 
@@ -126,9 +65,11 @@ pub record Affected (v : World) (w x : Objects) (ks js : List Level) : Type 0 wh
   pub grafts : HoldsGrafts js
   pub held : (o : Object) → is_held_in js o ≡ true → (is_held_in ks o ≡ true) ⊎ IsGraft o
   pub changed : (o : Object) → is_changed_in js o ≡ true → (is_changed_in ks o ≡ true) ⊎ IsGraft o
-  pub sounds : (y : Things) → IsSoundStore v (record { accounts = w.accounts; things = y }) → IsSoundStore v (record { accounts = x.accounts; things = y })
+  pub sounds : (y : Things) → IsSoundStore v (record { accounts = w.accounts; things = y }) →
+      IsSoundStore v (record { accounts = x.accounts; things = y })
 
-affected_then : (v : World) (w x y : Objects) (ks js is : List Level) → Affected v w x ks js → Affected v x y js is → Affected v w y ks is
+affected_then : (v : World) (w x y : Objects) (ks js is : List Level) → Affected v w x ks js →
+    Affected v x y js is → Affected v w y ks is
 affected_then v w x y ks js is h k =
     record {
       grown = grown_then is js ks k.grown h.grown;
@@ -153,9 +94,12 @@ graft_of : (o : Object) (q pt : ℕ) → same_object o (Graft q pt) ≡ true →
 graft_of o q pt h = subst IsGraft (sym (same_object_is o (Graft q pt) h)) tt
 
 -- accounts that differ in a graft that is held, and in its installer's account, which is held exclusively
-accounts_affected : (v : World) (w : Objects) (a : Accounts) (q pt : ℕ) (k : Level) (ks : List Level) → DifferAt q pt a w.accounts → StandsFrom w.accounts a →
-    HoldsGrafts (k ∷ ks) → is_changed_in (k ∷ ks) (Acct q) ≡ true → is_held (outermost_touched (k ∷ ks) (Graft q pt)) ≡ true →
-    ((y : Things) → IsSoundStore v (record { accounts = w.accounts; things = y }) → IsSoundStore v (record { accounts = a; things = y })) →
+accounts_affected : (v : World) (w : Objects) (a : Accounts) (q pt : ℕ) (k : Level)
+    (ks : List Level) → DifferAt q pt a w.accounts → StandsFrom w.accounts a →
+    HoldsGrafts (k ∷ ks) → is_changed_in (k ∷ ks) (Acct q) ≡ true →
+    is_held (outermost_touched (k ∷ ks) (Graft q pt)) ≡ true →
+    ((y : Things) → IsSoundStore v (record { accounts = w.accounts; things = y }) →
+    IsSoundStore v (record { accounts = a; things = y })) →
     Affected v w (with_accounts a w) (k ∷ ks) (k ∷ ks)
 accounts_affected v w a q pt k ks differ stands grafts acct found sounds =
     record {
@@ -164,7 +108,8 @@ accounts_affected v w a q pt k ks differ stands grafts acct found sounds =
       things = refl;
       stands = stands;
       frame = λ o e. differ_frame q pt a w.accounts w.things o differ
-          (other_than (k ∷ ks) o (Graft q pt) e (outermost_changed (k ∷ ks) (Graft q pt) (grafts q pt (outer_held (k ∷ ks) (Graft q pt) found))))
+          (other_than (k ∷ ks) o (Graft q pt) e (outer_changed (k ∷ ks) (Graft q pt)
+          (grafts q pt (outer_held (k ∷ ks) (Graft q pt) found))))
           (other_than (k ∷ ks) o (Acct q) e acct);
       grafts = grafts;
       held = λ o e. inl e;
@@ -179,7 +124,8 @@ pub record LeadsTo (v : World) (w : Objects) (n : Level) (ks : List Level) (d : 
   pub is : record { now = now; levels = n ∷ outer } ≡ d
   pub affected : Affected v w now ks outer
 
-effect_leads : (v : World) (q : ℕ) (e : Effect) (w : Objects) (n k : Level) (ks : List Level) (d : Config) → HoldsGrafts (k ∷ ks) → is_changed_in (k ∷ ks) (Acct q) ≡ true →
+effect_leads : (v : World) (q : ℕ) (e : Effect) (w : Objects) (n k : Level) (ks : List Level)
+    (d : Config) → HoldsGrafts (k ∷ ks) → is_changed_in (k ∷ ks) (Acct q) ≡ true →
     effect q e (record { now = w; levels = n ∷ k ∷ ks }) ≡ Some d → LeadsTo v w n (k ∷ ks) d
 effect_leads v q (Asked pt) w n k ks d grafts acct h =
     let js = touch_outermost (Graft q pt) (k ∷ ks) in
@@ -194,11 +140,22 @@ effect_leads v q (Asked pt) w n k ks d grafts acct h =
         stands = λ r pu e. e;
         frame = λ o e. same_self o w;
         grafts = λ r pu e. elim (touch_outermost_from (Graft q pt) (k ∷ ks) (Graft r pu) e) [
-          | inl before ↦ grown_outermost js (k ∷ ks) (Graft r pu) (grown_touch (Graft q pt) (k ∷ ks)) (grafts r pu before)
-          | inr same ↦ subst (λ o. outermost_touched js o ≡ Held.Exclusive) (sym (same_object_is (Graft r pu) (Graft q pt) same)) (touch_outermost_outer (Graft q pt) k ks)
+          | inl before ↦ grown_outermost js (k ∷ ks) (Graft r pu)
+              (grown_touch (Graft q pt) (k ∷ ks)) (grafts r pu before)
+          | inr same ↦ subst (λ o. outermost_touched js o ≡ Held.Exclusive)
+              (sym (same_object_is (Graft r pu) (Graft q pt) same))
+              (touch_outermost_outer (Graft q pt) k ks)
         ];
-        held = λ o e. elim (touch_outermost_from (Graft q pt) (k ∷ ks) o e) [ inl before ↦ inl before | inr same ↦ inr (graft_of o q pt same) ];
-        changed = λ o e. elim (touch_outermost_changed (Graft q pt) (k ∷ ks) o e) [ inl before ↦ inl before | inr same ↦ inr (graft_of o q pt same) ];
+        held =
+            λ o e. elim (touch_outermost_from (Graft q pt) (k ∷ ks) o e) [
+              | inl before ↦ inl before
+              | inr same ↦ inr (graft_of o q pt same)
+            ];
+        changed =
+            λ o e. elim (touch_outermost_changed (Graft q pt) (k ∷ ks) o e) [
+              | inl before ↦ inl before
+              | inr same ↦ inr (graft_of o q pt same)
+            ];
         sounds = λ y e. e;
       };
     }
@@ -212,7 +169,9 @@ effect_leads v q (Charged pt kind) w n k ks d grafts acct h =
       now = with_accounts (charge kind q pt w.accounts) w;
       outer = k ∷ ks;
       is = s.2;
-      affected = accounts_affected v w (charge kind q pt w.accounts) q pt k ks (charge_differs kind q pt w.accounts) (charged_stood kind q pt w.accounts) grafts acct found.1
+      affected =
+          accounts_affected v w (charge kind q pt w.accounts) q pt k ks (charge_differs kind q pt
+          w.accounts) (charged_stood kind q pt w.accounts) grafts acct found.1
           (λ y e. charge_store v (record { accounts = w.accounts; things = y }) q pt kind e s.1);
     }
 effect_leads v q (Removed pt) w n k ks d grafts acct h =
@@ -222,12 +181,15 @@ effect_leads v q (Removed pt) w n k ks d grafts acct h =
       now = with_accounts (removed q pt w.accounts) w;
       outer = k ∷ ks;
       is = s.1;
-      affected = accounts_affected v w (removed q pt w.accounts) q pt k ks (remove_differs q pt w.accounts) (removed_stood q pt w.accounts) grafts acct found.1
+      affected =
+          accounts_affected v w (removed q pt w.accounts) q pt k ks (remove_differs q pt w.accounts)
+          (removed_stood q pt w.accounts) grafts acct found.1
           (λ y e. removed_store v (record { accounts = w.accounts; things = y }) q pt e);
     }
 
 -- effects one after another
-pub effects_lead : (v : World) (q : ℕ) (es : List Effect) (w : Objects) (n k : Level) (ks : List Level) (d : Config) → HoldsGrafts (k ∷ ks) → is_changed_in (k ∷ ks) (Acct q) ≡ true →
+pub effects_lead : (v : World) (q : ℕ) (es : List Effect) (w : Objects) (n k : Level)
+    (ks : List Level) (d : Config) → HoldsGrafts (k ∷ ks) → is_changed_in (k ∷ ks) (Acct q) ≡ true →
     effects_on q es (record { now = w; levels = n ∷ k ∷ ks }) ≡ Some d → LeadsTo v w n (k ∷ ks) d
 effects_lead v q [] w n k ks d grafts acct h =
     record {
@@ -252,12 +214,23 @@ effects_lead v q [] w n k ks d grafts acct h =
 effects_lead v q (e ∷ es) w n k ks d grafts acct h =
     let s = effects_split q e es (record { now = w; levels = n ∷ k ∷ ks }) d h in
     let first = effect_leads v q e w n k ks s.0 grafts acct s.1 in
-    next first.now first.outer first.affected (subst (λ (c : Config). effects_on q es c ≡ Some d) (sym first.is) s.2) (effects_lead v q es)
+    next first.now first.outer first.affected (subst (λ (c : Config). effects_on q es c ≡ Some d)
+    (sym first.is) s.2) (effects_lead v q es)
   where
-    next : (x : Objects) (js : List Level) → Affected v w x (k ∷ ks) js → effects_on q es (record { now = x; levels = n ∷ js }) ≡ Some d →
-        ((w : Objects) (n k : Level) (ks : List Level) (d : Config) → HoldsGrafts (k ∷ ks) → is_changed_in (k ∷ ks) (Acct q) ≡ true →
-        effects_on q es (record { now = w; levels = n ∷ k ∷ ks }) ≡ Some d → LeadsTo v w n (k ∷ ks) d) → LeadsTo v w n (k ∷ ks) d
+    next : (x : Objects) (js : List Level) → Affected v w x (k ∷ ks) js →
+        effects_on q es (record { now = x; levels = n ∷ js }) ≡ Some d →
+        ((w : Objects) (n k : Level) (ks : List Level) (d : Config) → HoldsGrafts (k ∷ ks) →
+        is_changed_in (k ∷ ks) (Acct q) ≡ true →
+        effects_on q es (record { now = w; levels = n ∷ k ∷ ks }) ≡ Some d →
+        LeadsTo v w n (k ∷ ks) d) → LeadsTo v w n (k ∷ ks) d
     next x [] affected h further = absurd affected.grown
     next x (j ∷ js) affected h further =
-        let rest = further x n j js d affected.grafts (grown_changed (j ∷ js) (k ∷ ks) (Acct q) affected.grown acct) h in
-        record { now = rest.now; outer = rest.outer; is = rest.is; affected = affected_then v w x rest.now (k ∷ ks) (j ∷ js) rest.outer affected rest.affected }
+        let rest = further x n j js d affected.grafts
+        (grown_changed (j ∷ js) (k ∷ ks) (Acct q) affected.grown acct) h in
+        record {
+          now = rest.now;
+          outer = rest.outer;
+          is = rest.is;
+          affected =
+              affected_then v w x rest.now (k ∷ ks) (j ∷ js) rest.outer affected rest.affected;
+        }

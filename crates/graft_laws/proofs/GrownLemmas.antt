@@ -11,9 +11,10 @@ use Rattle.kernel_model.specs.InPlace.{is_changed_in}
 use Rattle.kernel_model.specs.Alike.{is_held_in}
 use Rattle.kernel_model.specs.Laws.{answer_objects}
 use Rattle.graft_laws.specs.Alike.{point_objects, AreHeldBy, AsksAreHeld, AnswerIsHeld}
-use Rattle.kernel_laws.proofs.LevelLemmas.{touch_holds}
-use Rattle.graft_laws.proofs.PointLemmas.{or_cases, or_left, or_right}
-use Rattle.graft_laws.proofs.HoldLemmas.{touch_held, exclusive_is}
+use Rattle.kernel_laws.proofs.LevelLemmas.{touch_holds, held_so}
+use Rattle.graft_laws.proofs.PointLemmas.{or_left, or_right}
+use Rattle.graft_laws.proofs.HoldLemmas.{touch_held}
+use Rattle.call_laws.specs.NeedGrafts.{or_cases}
 
 -- what is held so is held so in another way too
 pub record HoldsMore (t u : Touched) : Type 0 where
@@ -51,7 +52,11 @@ grows_then x y z h k =
       point = h.point ∙ k.point;
       args = h.args ∙ k.args;
       kept = h.kept ∙ k.kept;
-      holds = record { held = λ o e. h.holds.held o (k.holds.held o e); exclusive = λ o e. h.holds.exclusive o (k.holds.exclusive o e) };
+      holds =
+          record {
+            held = λ o e. h.holds.held o (k.holds.held o e);
+            exclusive = λ o e. h.holds.exclusive o (k.holds.exclusive o e);
+          };
     }
 
 pub grown_then : (xs ys zs : List Level) → AreGrown xs ys → AreGrown ys zs → AreGrown xs zs
@@ -64,12 +69,32 @@ grown_then (x ∷ xs) (y ∷ ys) [] h k = absurd k
 
 pub grown_answer : (pt r0 r1 : ℕ) (ls : List Level) → AreGrown (answer_innermost pt r0 r1 ls) ls
 grown_answer pt r0 r1 [] = tt
-grown_answer pt r0 r1 (l ∷ ls) = (record { owner = refl; point = refl; args = refl; kept = refl; holds = holds_self l.touched }, grown_self ls)
+grown_answer pt r0 r1 (l ∷ ls) = (
+  record {
+    owner = refl;
+    point = refl;
+    args = refl;
+    kept = refl;
+    holds = holds_self l.touched;
+  },
+  grown_self ls,
+)
 
 pub grown_touch : (o : Object) (ls : List Level) → AreGrown (touch_outermost o ls) ls
 grown_touch o [] = tt
-grown_touch o (l ∷ []) =
-    (record { owner = refl; point = refl; args = refl; kept = refl; holds = record { held = λ a h. touch_held o Mode.Exclusive l.touched a h; exclusive = λ a h. touch_holds o Mode.Exclusive l.touched a h } }, tt)
+grown_touch o (l ∷ []) = (
+  record {
+    owner = refl;
+    point = refl;
+    args = refl;
+    kept = refl;
+    holds = record {
+      held = λ a h. touch_held o Mode.Exclusive l.touched a h;
+      exclusive = λ a h. touch_holds o Mode.Exclusive l.touched a h;
+    };
+  },
+  tt,
+)
 grown_touch o (l ∷ k ∷ ls) = (grows_self l, grown_touch o (k ∷ ls))
 
 pub grown_length : (ns ls : List Level) → AreGrown ns ls → length ns ≡ length ls
@@ -90,7 +115,9 @@ grown_held [] (l ∷ ls) o h e = absurd h
 grown_held (n ∷ ns) [] o h e = absurd h
 
 -- each of several objects
-pub all_held : (ns ls : List Level) (os : List Object) → ((o : Object) → is_held_in ls o ≡ true → is_held_in ns o ≡ true) → AreHeldBy ls os → AreHeldBy ns os
+pub all_held : (ns ls : List Level) (os : List Object) →
+    ((o : Object) → is_held_in ls o ≡ true → is_held_in ns o ≡ true) → AreHeldBy ls os →
+    AreHeldBy ns os
 all_held ns ls [] h held = tt
 all_held ns ls (o ∷ os) h held = (h o held.0, all_held ns ls os h held.1)
 
@@ -100,7 +127,8 @@ grown_asks (n ∷ []) (l ∷ []) h asks = tt
 grown_asks (n ∷ m ∷ ns) (l ∷ k ∷ ls) h asks = (
   subst (λ q. AreHeldBy (m ∷ ns) (point_objects (kind_of n.point) q n.point)) (sym h.0.owner)
       (subst (λ pt. AreHeldBy (m ∷ ns) (point_objects (kind_of pt) l.owner pt)) (sym h.0.point)
-      (all_held (m ∷ ns) (k ∷ ls) (point_objects (kind_of l.point) l.owner l.point) (λ o e. grown_held (m ∷ ns) (k ∷ ls) o h.1 e) asks.0)),
+      (all_held (m ∷ ns) (k ∷ ls) (point_objects (kind_of l.point) l.owner l.point)
+      (λ o e. grown_held (m ∷ ns) (k ∷ ls) o h.1 e) asks.0)),
   grown_asks (m ∷ ns) (k ∷ ls) h.1 asks.1,
 )
 grown_asks [] (l ∷ ls) h asks = absurd h
@@ -121,16 +149,19 @@ grown_answer_held (n ∷ m ∷ ns) (l ∷ []) h held = absurd h.1
 
 -- ---- what stays held exclusively
 
-pub grown_changed : (ns ls : List Level) (o : Object) → AreGrown ns ls → is_changed_in ls o ≡ true → is_changed_in ns o ≡ true
+pub grown_changed : (ns ls : List Level) (o : Object) → AreGrown ns ls → is_changed_in ls o ≡ true →
+    is_changed_in ns o ≡ true
 grown_changed [] [] o h e = e
 grown_changed (n ∷ ns) (l ∷ ls) o h e = elim (or_cases (is_held_exclusively (l.touched o)) (is_changed_in ls o) e) [
-  | inl here ↦ or_left (is_held_exclusively (n.touched o)) (is_changed_in ns o) (ap is_held_exclusively (h.0.holds.exclusive o (exclusive_is (l.touched o) here)))
+  | inl here ↦ or_left (is_held_exclusively (n.touched o)) (is_changed_in ns o)
+      (ap is_held_exclusively (h.0.holds.exclusive o (held_so (l.touched o) here)))
   | inr outer ↦ or_right (is_held_exclusively (n.touched o)) (is_changed_in ns o) (grown_changed ns ls o h.1 outer)
 ]
 grown_changed [] (l ∷ ls) o h e = absurd h
 grown_changed (n ∷ ns) [] o h e = absurd h
 
-pub grown_outermost : (ns ls : List Level) (o : Object) → AreGrown ns ls → outermost_touched ls o ≡ Held.Exclusive → outermost_touched ns o ≡ Held.Exclusive
+pub grown_outermost : (ns ls : List Level) (o : Object) → AreGrown ns ls →
+    outermost_touched ls o ≡ Held.Exclusive → outermost_touched ns o ≡ Held.Exclusive
 grown_outermost [] [] o h e = e
 grown_outermost (n ∷ []) (l ∷ []) o h e = h.0.holds.exclusive o e
 grown_outermost (n ∷ m ∷ ns) (l ∷ k ∷ ls) o h e = grown_outermost (m ∷ ns) (k ∷ ls) o h.1 e
@@ -140,7 +171,8 @@ grown_outermost (n ∷ []) (l ∷ k ∷ ls) o h e = absurd h.1
 grown_outermost (n ∷ m ∷ ns) (l ∷ []) o h e = absurd h.1
 
 -- what isn't held exclusively wasn't before
-pub grown_unchanged : (ns ls : List Level) (o : Object) → AreGrown ns ls → is_changed_in ns o ≡ false → is_changed_in ls o ≡ false
+pub grown_unchanged : (ns ls : List Level) (o : Object) → AreGrown ns ls →
+    is_changed_in ns o ≡ false → is_changed_in ls o ≡ false
 grown_unchanged ns ls o h e = unchanged_by (is_changed_in ls o) refl
   where
     contrary : true ≡ false → ⊥

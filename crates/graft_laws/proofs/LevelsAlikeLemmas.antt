@@ -19,16 +19,20 @@ length_alike (l ∷ ls) [] h = absurd h
 
 pub records_alike : (ls ks : List Level) → LevelsAlike ls ks → record_count ls ≡ record_count ks
 records_alike [] [] h = refl
-records_alike (l ∷ ls) (k ∷ ks) h = ap (λ (m : Level). length m.records + record_count ls) h.0 ∙ ap (λ n. length k.records + n) (records_alike ls ks h.1)
+records_alike (l ∷ ls) (k ∷ ks) h =
+    ap (λ (m : Level). length m.records + record_count ls) h.0
+    ∙ ap (λ n. length k.records + n) (records_alike ls ks h.1)
 records_alike [] (k ∷ ks) h = absurd h
 records_alike (l ∷ ls) [] h = absurd h
 
 -- a test that doesn't look at what a level found
-pub any_alike : (test : Level → Bool) (ls ks : List Level) → ((l : Level) (x : Things) → test (record l { kept = x }) ≡ test l) → LevelsAlike ls ks →
+pub any_alike : (test : Level → Bool) (ls ks : List Level) →
+    ((l : Level) (x : Things) → test (record l { kept = x }) ≡ test l) → LevelsAlike ls ks →
     list_any test ls ≡ list_any test ks
 any_alike test [] [] same h = refl
 any_alike test (l ∷ ls) (k ∷ ks) same h =
-    ap (λ b. b || list_any test ls) (sym (same l k.kept) ∙ ap test h.0) ∙ ap (λ b. test k || b) (any_alike test ls ks same h.1)
+    ap (λ b. b || list_any test ls) (sym (same l k.kept) ∙ ap test h.0)
+    ∙ ap (λ b. test k || b) (any_alike test ls ks same h.1)
 any_alike test [] (k ∷ ks) same h = absurd h
 any_alike test (l ∷ ls) [] same h = absurd h
 
@@ -39,16 +43,20 @@ pub running_alike : (ls ks : List Level) (q pt : ℕ) → LevelsAlike ls ks → 
 running_alike ls ks q pt h = any_alike (λ (l : Level). l.owner == q && l.point == pt) ls ks (λ l x. refl) h
 
 -- the innermost level gets an answer
-pub answer_alike : (pt r0 r1 : ℕ) (ls ks : List Level) → LevelsAlike ls ks → LevelsAlike (answer_innermost pt r0 r1 ls) (answer_innermost pt r0 r1 ks)
+pub answer_alike : (pt r0 r1 : ℕ) (ls ks : List Level) → LevelsAlike ls ks →
+    LevelsAlike (answer_innermost pt r0 r1 ls) (answer_innermost pt r0 r1 ks)
 answer_alike pt r0 r1 [] [] h = tt
-answer_alike pt r0 r1 (l ∷ ls) (k ∷ ks) h = (ap (λ (m : Level). with_machine (answered (kind_of pt) r0 r1 m.machine) m) h.0, h.1)
+answer_alike pt r0 r1 (l ∷ ls) (k ∷ ks) h =
+    (ap (λ (m : Level). with_machine (answered (kind_of pt) r0 r1 m.machine) m) h.0, h.1)
 answer_alike pt r0 r1 [] (k ∷ ks) h = absurd h
 answer_alike pt r0 r1 (l ∷ ls) [] h = absurd h
 
 -- level 0 touches one more object
-pub touch_alike : (o : Object) (ls ks : List Level) → LevelsAlike ls ks → LevelsAlike (touch_outermost o ls) (touch_outermost o ks)
+pub touch_alike : (o : Object) (ls ks : List Level) → LevelsAlike ls ks →
+    LevelsAlike (touch_outermost o ls) (touch_outermost o ks)
 touch_alike o [] [] h = tt
-touch_alike o (l ∷ []) (k ∷ []) h = (ap (λ (m : Level). record m { touched = touch o Mode.Exclusive m.touched }) h.0, tt)
+touch_alike o (l ∷ []) (k ∷ []) h =
+    (ap (λ (m : Level). record m { touched = touch o Mode.Exclusive m.touched }) h.0, tt)
 touch_alike o (l ∷ m ∷ ls) (k ∷ n ∷ ks) h = (h.0, touch_alike o (m ∷ ls) (n ∷ ks) h.1)
 touch_alike o [] (k ∷ ks) h = absurd h
 touch_alike o (l ∷ ls) [] h = absurd h

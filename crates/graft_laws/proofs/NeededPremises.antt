@@ -18,7 +18,7 @@ use Rattle.kernel_model.specs.Meaning.{stage}
 use Rattle.kernel_model.specs.Kernel.{Call as CallInFlight, Kernel, Run}
 use Rattle.kernel_model.specs.Blocking.{config_of, holds}
 use Rattle.kernel_model.specs.Settle.{step}
-use Rattle.kernel_model.specs.Pieces.{plain}
+use Rattle.kernel_model.specs.Pieces.{plain_calls}
 use Rattle.kernel_model.specs.Events.{drop_call}
 use Rattle.kernel_model.specs.Sound.{clash}
 use Rattle.kernel_model.specs.declared.SysCall.TheVariants.{Yield, Spawn}
@@ -55,7 +55,16 @@ with_grafts w =
 -- a level of process 0 at a point, whose registers are all this number, and which found these things
 abbrev level : (point number : ℕ) → Things → Level
 level pt n w =
-    record { owner = 0; point = pt; machine = record { regs = λ r. n; pc = 0; memory = λ a. 0 }; count = 0; touched = untouched; args = []; records = []; kept = w }
+    record {
+      owner = 0;
+      point = pt;
+      machine = record { regs = λ r. n; pc = 0; memory = λ a. 0 };
+      count = 0;
+      touched = untouched;
+      args = [];
+      records = [];
+      kept = w;
+    }
 
 -- register 0 of the innermost level
 abbrev first_register : List Level → ℕ
@@ -73,7 +82,8 @@ abbrev reads_cell : ℕ → Config
 reads_cell x = record { now = with_grafts (with_cell x); levels = level 5 0 (with_cell x) ∷ [] }
 
 -- the instruction finds different values
-needed_cell_differs : (first_register (micro small_world (image_of_one (instr Call 0)) 0 (reads_cell 7)).config.levels ≡ 7)
+needed_cell_differs : (first_register
+    (micro small_world (image_of_one (instr Call 0)) 0 (reads_cell 7)).config.levels ≡ 7)
     × (first_register (micro small_world (image_of_one (instr Call 0)) 0 (reads_cell 8)).config.levels ≡ 8)
 needed_cell_differs = (refl, refl)
 
@@ -89,8 +99,11 @@ abbrev asked_in_vain : Things → Config
 asked_in_vain w = record { now = with_grafts w; levels = level 4 0 w ∷ level 5 0 w ∷ [] }
 
 -- the drop of the level that was asked gives its asker different frames
-unheld_default_differs : (first_register (drop_level small_world (asked_in_vain (with_frame (Some frame_of_root) (1 ∷ []))).now (asked_in_vain (with_frame (Some frame_of_root) (1 ∷ []))).levels 1 Cause.DivideByZero).config.levels ≡ 1)
-    × (first_register (drop_level small_world (asked_in_vain (with_frame None [])).now (asked_in_vain (with_frame None [])).levels 1 Cause.DivideByZero).config.levels ≡ 0)
+unheld_default_differs : (first_register (drop_level small_world
+    (asked_in_vain (with_frame (Some frame_of_root) (1 ∷ []))).now (asked_in_vain
+    (with_frame (Some frame_of_root) (1 ∷ []))).levels 1 Cause.DivideByZero).config.levels ≡ 1)
+    × (first_register (drop_level small_world (asked_in_vain (with_frame None [])).now
+    (asked_in_vain (with_frame None [])).levels 1 Cause.DivideByZero).config.levels ≡ 0)
 unheld_default_differs = (refl, refl)
 
 -- these processes live
@@ -106,8 +119,10 @@ abbrev chooses_one : Things → Config
 chooses_one w = record { now = with_grafts w; levels = level 5 1 w ∷ [] }
 
 -- its answer is valid where process 1 lives, and else refused
-unheld_answer_differs : ((micro small_world (image_of_one (instr Ret 0)) 0 (chooses_one (with_living (0 ∷ 1 ∷ [])))).said ≡ Micro.Completed (1 ∷ 1 ∷ 1 ∷ 1 ∷ []))
-    × ((micro small_world (image_of_one (instr Ret 0)) 0 (chooses_one (with_living (0 ∷ [])))).said ≡ Micro.Dropped 0 0 5 (RefusedAnswer 1 1))
+unheld_answer_differs : ((micro small_world (image_of_one (instr Ret 0)) 0
+    (chooses_one (with_living (0 ∷ 1 ∷ [])))).said ≡ Micro.Completed (1 ∷ 1 ∷ 1 ∷ 1 ∷ []))
+    × ((micro small_world (image_of_one (instr Ret 0)) 0 (chooses_one (with_living (0 ∷ [])))).said
+    ≡ Micro.Dropped 0 0 5 (RefusedAnswer 1 1))
 unheld_answer_differs = (refl, refl)
 
 -- ---- what levels found, and what they hold
@@ -122,7 +137,8 @@ abbrev asks_after_change : Config
 asks_after_change = record { now = with_grafts (with_cell 7); levels = level 4 0 (with_cell 0) ∷ [] }
 
 -- the level that begins finds the change
-outer_change_is_found : (first_kept (micro small_world (image_of_one (instr Call 15)) 0 asks_after_change).config.levels).cell 0 0 ≡ 7
+outer_change_is_found : (first_kept (micro small_world (image_of_one (instr Call 15)) 0
+    asks_after_change).config.levels).cell 0 0 ≡ 7
 outer_change_is_found = refl
 
 -- a level that holds the graft of point 1 shared, as a piece that needs it so would
@@ -139,7 +155,8 @@ steps_left None = 0
 steps_left (Some c) = funds c.now.accounts 0 1 Steps
 
 -- an effect that is made again changes it, though no level holds it exclusively
-shared_graft_is_charged : (steps_left (effect 0 (Charged 1 Steps) shares_graft) ≡ 9) × (is_changed_in shares_graft.levels (Graft 0 1) ≡ false)
+shared_graft_is_charged : (steps_left (effect 0 (Charged 1 Steps) shares_graft) ≡ 9)
+    × (is_changed_in shares_graft.levels (Graft 0 1) ≡ false)
 unfolding same_object
 shared_graft_is_charged = (refl, refl)
 
@@ -163,7 +180,8 @@ first_byte [] = 0
 first_byte (l ∷ ls) = l.machine.memory 0
 
 -- the level that begins finds what was kept, on which the states don't agree
-needed_segment_differs : (first_byte (micro small_world (keeping_image_of_one (instr Call 15)) 0 (asks_kept 7)).config.levels ≡ 7)
+needed_segment_differs : (first_byte
+    (micro small_world (keeping_image_of_one (instr Call 15)) 0 (asks_kept 7)).config.levels ≡ 7)
     × (first_byte (micro small_world (keeping_image_of_one (instr Call 15)) 0 (asks_kept 8)).config.levels ≡ 8)
 needed_segment_differs = (refl, refl)
 
@@ -181,7 +199,8 @@ answers_unheld =
     }
 
 -- its segment changes, though no level holds it
-unheld_segment_changes : (kept_byte ((micro small_world (keeping_image_of_one (instr Ret 0)) 0 answers_unheld).config.now.things.segment 0 5) ≡ 0)
+unheld_segment_changes : (kept_byte ((micro small_world (keeping_image_of_one (instr Ret 0)) 0
+    answers_unheld).config.now.things.segment 0 5) ≡ 0)
     × (is_changed_in answers_unheld.levels (Graft 0 5) ≡ false)
 unheld_segment_changes = (refl, refl)
 
@@ -206,13 +225,15 @@ seen_processes None = 0
 seen_processes (Some c) = length c.now.things.queue
 
 -- the spawn is blocked by the graft call, which holds the queue; a step of it would change what that call holds
-blocked_step_changes_held : (seen_processes (config_of plain two_calls 0) ≡ 2)
-    × (seen_processes (config_of plain (step plain 1 (record { kernel = two_calls; blocks = λ b. []; notes = []; io = [] })).kernel 0) ≡ 3)
+blocked_step_changes_held : (seen_processes (config_of plain_calls two_calls 0) ≡ 2)
+    × (seen_processes (config_of plain_calls (step plain_calls 1
+    (record { kernel = two_calls; blocks = λ b. []; notes = []; io = [] })).kernel 0) ≡ 3)
 blocked_step_changes_held = (refl, refl)
 
 -- ---- sound kernels
 
--- process 0's slice is asked of its graft, which has begun, and the graft of process 0 is to be asked for process 1's yield too
+-- process 0's slice is asked of its graft, which has begun, and the graft of process 0 is to be
+-- asked for process 1's yield too
 abbrev two_yields : Kernel
 two_yields =
     record two_calls {
@@ -225,8 +246,9 @@ abbrev run_of : Kernel → Run
 run_of k = record { kernel = k; blocks = λ b. []; notes = []; io = [] }
 
 -- a step of process 1, which is blocked, makes two calls hold the queue exclusively
-blocked_step_clashes : (clash (holds plain two_yields 0 0 Queue) (holds plain two_yields 1 0 Queue) ≡ false)
-    × (clash (holds plain (step plain 1 (run_of two_yields)).kernel 0 0 Queue) (holds plain (step plain 1 (run_of two_yields)).kernel 1 0 Queue) ≡ true)
+blocked_step_clashes : (clash (holds plain_calls two_yields 0 0 Queue) (holds plain_calls two_yields 1 0 Queue) ≡ false)
+    × (clash (holds plain_calls (step plain_calls 1 (run_of two_yields)).kernel 0 0 Queue)
+    (holds plain_calls (step plain_calls 1 (run_of two_yields)).kernel 1 0 Queue) ≡ true)
 unfolding same_object
 blocked_step_clashes = (refl, refl)
 
@@ -236,5 +258,6 @@ history_of None = None
 history_of (Some c) = c.marks
 
 -- the drop of a level that isn't there writes an instruction into the history that nobody did
-absent_drop_writes : history_of ((drop_call plain 0 (two_calls.call 0) (Some 3) Cause.DivideByZero (run_of two_calls)).kernel.call 0) ≡ Some (Stepped ∷ [])
+absent_drop_writes : history_of ((drop_call plain_calls 0 (two_calls.call 0)
+    (Some 3) Cause.DivideByZero (run_of two_calls)).kernel.call 0) ≡ Some (Stepped ∷ [])
 absent_drop_writes = refl

@@ -17,9 +17,10 @@ use Rattle.kernel_model.specs.Alike.{is_needed, is_needed_exclusively, is_held_i
 use Rattle.kernel_laws.proofs.StoreLemmas.{found_at}
 use Rattle.kernel_laws.proofs.LevelLemmas.{touch_all_holds}
 use Rattle.graft_laws.specs.Alike.{point_objects, AreHeldBy}
-use Rattle.graft_laws.proofs.PointLemmas.{or_cases, or_left, or_right}
+use Rattle.graft_laws.proofs.PointLemmas.{or_left, or_right}
 use Rattle.graft_laws.proofs.HoldLemmas.{touch_all_held, touch_all_changed}
 use Rattle.graft_laws.proofs.GrownLemmas.{HoldsMore, GrowsFrom, AreGrown, grown_self}
+use Rattle.call_laws.specs.NeedGrafts.{or_cases}
 
 -- ---- shapes
 
@@ -29,15 +30,18 @@ pub record IsNew (n : Level) (w : Things) : Type 0 where
   pub records : n.records ≡ []
   pub kept : n.kept ≡ w
 
--- From a level of these holds inside others: what levels there are afterwards, where the things are w and the call goes on or not.
-pub data Shape (l : Level) (t : Touched) (ls : List Level) (w : Things) (went : Bool) (after : List Level) : Type 0 where
+-- From a level of these holds inside others: what levels there are afterwards, where the things are
+-- w and the call goes on or not.
+pub data Shape (l : Level) (t : Touched) (ls : List Level) (w : Things) (went : Bool)
+    (after : List Level) : Type 0 where
   -- the levels go on
   Goes : went ≡ true → AreGrown after (l ∷ ls) → Shape l t ls w went after
   -- a level begins, which another asked that holds the objects of the point
   Begins : (n : Level) (ks : List Level) → went ≡ true → after ≡ n ∷ ks → AreGrown ks (l ∷ ls) → IsNew n w →
       AreHeldBy ks (point_objects (kind_of n.point) n.owner n.point) → Shape l t ls w went after
   -- the innermost level answers its asker, which then holds what both held
-  Joins : (a b : Level) (rest : List Level) → went ≡ true → ls ≡ a ∷ rest → after ≡ b ∷ rest → GrowsFrom b a → HoldsMore b.touched t → Shape l t ls w went after
+  Joins : (a b : Level) (rest : List Level) → went ≡ true → ls ≡ a ∷ rest → after ≡ b ∷ rest →
+      GrowsFrom b a → HoldsMore b.touched t → Shape l t ls w went after
   -- the call ends with an answer
   Ends : went ≡ false → after ≡ [] → Shape l t ls w went after
   -- the innermost level is dropped
@@ -45,11 +49,15 @@ pub data Shape (l : Level) (t : Touched) (ls : List Level) (w : Things) (went : 
 
 -- what is held afterwards was held, or is needed
 abbrev pub IsHeldFrom : List Need → (before after : List Level) → Type 0
-IsHeldFrom ns before after = (o : Object) → is_held_in after o ≡ true → (is_held_in before o ≡ true) ⊎ (is_needed o ns ≡ true)
+IsHeldFrom ns before after =
+    (o : Object) → is_held_in after o ≡ true →
+    (is_held_in before o ≡ true) ⊎ (is_needed o ns ≡ true)
 
 -- what is held exclusively afterwards was held so, or is needed so
 abbrev pub IsChangedFrom : List Need → (before after : List Level) → Type 0
-IsChangedFrom ns before after = (o : Object) → is_changed_in after o ≡ true → (is_changed_in before o ≡ true) ⊎ (is_needed_exclusively o ns ≡ true)
+IsChangedFrom ns before after =
+    (o : Object) → is_changed_in after o ≡ true →
+    (is_changed_in before o ≡ true) ⊎ (is_needed_exclusively o ns ≡ true)
 
 -- a graft that stands stood before
 abbrev pub StandsFrom : (a b : Accounts) → Type 0
@@ -71,7 +79,8 @@ pub record Turn (w : Objects) (l : Level) (ls : List Level) (ns : List Need) (o 
   -- where the call goes on, what it needs is held afterwards, and a graft by level 0 exclusively
   pub gets : is_going_on o.said ≡ true → (a : Object) → is_needed a ns ≡ true → is_held_in o.config.levels a ≡ true
   pub ends : IsEnded ls o.said o.config.levels
-  pub outer : is_going_on o.said ≡ true → (q pt : ℕ) → is_needed (Graft q pt) ns ≡ true → outermost_touched o.config.levels (Graft q pt) ≡ Held.Exclusive
+  pub outer : is_going_on o.said ≡ true → (q pt : ℕ) → is_needed (Graft q pt) ns ≡ true →
+      outermost_touched o.config.levels (Graft q pt) ≡ Held.Exclusive
 
 -- ---- grafts that stand
 
@@ -95,15 +104,29 @@ removed_stood q pt a = λ r pu h. stood_by (a.graft q pt) r pu h
   where
     stood_by : (g : Option GraftValue) → StandsFrom a (removed_by q pt g a)
     stood_by None = λ r pu h. h
-    stood_by (Some g) = λ r pu h. elim (found_at q pt r pu None a.graft) [ inl here ↦ absurd (none_stands ((ap is_some (sym here.2)) ∙ h)) | inr other ↦ ap is_some (sym other) ∙ h ]
+    stood_by (Some g) =
+        λ r pu h. elim (found_at q pt r pu None a.graft) [
+          | inl here ↦ absurd (none_stands ((ap is_some (sym here.2)) ∙ h))
+          | inr other ↦ ap is_some (sym other) ∙ h
+        ]
       where
         none_stands : false ≡ true → ⊥
         none_stands h = cc
 
 -- ---- turns
 
-pub effect_turn : (e : Effect) (w : Objects) (l : Level) (ls : List Level) (ns : List Need) (o : Outcome) → Turn w l ls ns o → Turn w l ls ns (with_effect e o)
-effect_turn e w l ls ns o h = record { shape = h.shape; held = h.held; stands = h.stands; changed = h.changed; gets = h.gets; outer = h.outer; ends = h.ends }
+pub effect_turn : (e : Effect) (w : Objects) (l : Level) (ls : List Level) (ns : List Need)
+    (o : Outcome) → Turn w l ls ns o → Turn w l ls ns (with_effect e o)
+effect_turn e w l ls ns o h =
+    record {
+      shape = h.shape;
+      held = h.held;
+      stands = h.stands;
+      changed = h.changed;
+      gets = h.gets;
+      outer = h.outer;
+      ends = h.ends;
+    }
 
 -- after a charge of the innermost level's graft
 pub charged_turn : (k : Kind) (w : Objects) (l : Level) (ls : List Level) (ns : List Need) (o : Outcome) →
@@ -121,20 +144,28 @@ charged_turn k w l ls ns o h =
 
 -- the innermost level goes on
 pub goes_turn : (w x : Objects) (l n : Level) (ls : List Level) (ns : List Need) → GrowsFrom n l →
-    ((o : Object) → is_held (n.touched o) ≡ true → (is_held (l.touched o) ≡ true) ⊎ (is_needed o ns ≡ true)) → StandsFrom w.accounts x.accounts →
-    ((o : Object) → is_needed o ns ≡ true → is_held (n.touched o) ≡ true) → IsChangedFrom ns (l ∷ []) (n ∷ []) → ((q pt : ℕ) → is_needed (Graft q pt) ns ≡ true → ⊥) → Turn w l ls ns (goes_on x (n ∷ ls))
+    ((o : Object) → is_held (n.touched o) ≡ true →
+    (is_held (l.touched o) ≡ true) ⊎ (is_needed o ns ≡ true)) →
+    StandsFrom w.accounts x.accounts →
+    ((o : Object) → is_needed o ns ≡ true → is_held (n.touched o) ≡ true) →
+    IsChangedFrom ns (l ∷ []) (n ∷ []) → ((q pt : ℕ) → is_needed (Graft q pt) ns ≡ true → ⊥) →
+    Turn w l ls ns (goes_on x (n ∷ ls))
 goes_turn w x l n ls ns grows from stands gets changed none =
     record {
       shape = Goes refl (grows, grown_self ls);
       held = λ o h. elim (or_cases (is_held (n.touched o)) (is_held_in ls o) h) [
-        | inl here ↦ elim (from o here) [ inl before ↦ inl (or_left (is_held (l.touched o)) (is_held_in ls o) before) | inr needs ↦ inr needs ]
+        | inl here ↦ elim (from o here) [
+          | inl before ↦ inl (or_left (is_held (l.touched o)) (is_held_in ls o) before)
+          | inr needs ↦ inr needs
+        ]
         | inr outer ↦ inl (or_right (is_held (l.touched o)) (is_held_in ls o) outer)
       ];
       stands = stands;
       gets = λ e o h. or_left (is_held (n.touched o)) (is_held_in ls o) (gets o h);
       changed = λ o h. elim (or_cases (is_held_exclusively (n.touched o)) (is_changed_in ls o) h) [
         | inl here ↦ elim (changed o (or_left (is_held_exclusively (n.touched o)) false here)) [
-          | inl before ↦ inl (or_left (is_held_exclusively (l.touched o)) (is_changed_in ls o) (first_changed (l.touched o) before))
+          | inl before ↦ inl (or_left (is_held_exclusively (l.touched o)) (is_changed_in ls o)
+              (first_changed (l.touched o) before))
           | inr needs ↦ inr needs
         ]
         | inr outer ↦ inl (or_right (is_held_exclusively (l.touched o)) (is_changed_in ls o) outer)
@@ -156,22 +187,30 @@ not_going h = absurd (contrary h)
     contrary h = cc
 
 -- a touch of these objects
-pub touches : (l n : Level) (ns : List Need) → n.owner ≡ l.owner → n.point ≡ l.point → n.args ≡ l.args → n.kept ≡ l.kept → n.touched ≡ touch_all ns l.touched → GrowsFrom n l
+pub touches : (l n : Level) (ns : List Need) → n.owner ≡ l.owner → n.point ≡ l.point →
+    n.args ≡ l.args → n.kept ≡ l.kept → n.touched ≡ touch_all ns l.touched → GrowsFrom n l
 touches l n ns owner point args kept touched =
     record {
       owner = owner;
       point = point;
       args = args;
       kept = kept;
-      holds = subst (λ t. HoldsMore t l.touched) (sym touched) (record { held = λ o h. touch_all_held ns l.touched o h; exclusive = λ o h. touch_all_holds ns l.touched o h });
+      holds =
+          subst (λ t. HoldsMore t l.touched) (sym touched) (record {
+            held = λ o h. touch_all_held ns l.touched o h;
+            exclusive = λ o h. touch_all_holds ns l.touched o h;
+          });
     }
 
 -- what is held exclusively after a touch
-pub touched_from : (ns : List Need) (l n : Level) (o : Object) → n.touched ≡ touch_all ns l.touched → is_changed_in (n ∷ []) o ≡ true → (is_changed_in (l ∷ []) o ≡ true) ⊎ (is_needed_exclusively o ns ≡ true)
+pub touched_from : (ns : List Need) (l n : Level) (o : Object) →
+    n.touched ≡ touch_all ns l.touched → is_changed_in (n ∷ []) o ≡ true →
+    (is_changed_in (l ∷ []) o ≡ true) ⊎ (is_needed_exclusively o ns ≡ true)
 touched_from ns l n o e h = elim (or_cases (is_held_exclusively (n.touched o)) false h) [
-  | inl here ↦ elim (touch_all_changed ns l.touched o (ap (λ (t : Touched). is_held_exclusively (t o)) (sym e) ∙ here)) [
-    | inl before ↦ inl (or_left (is_held_exclusively (l.touched o)) false before)
-    | inr needs ↦ inr needs
-  ]
+  | inl here ↦ elim (touch_all_changed ns l.touched o
+      (ap (λ (t : Touched). is_held_exclusively (t o)) (sym e) ∙ here)) [
+        | inl before ↦ inl (or_left (is_held_exclusively (l.touched o)) false before)
+        | inr needs ↦ inr needs
+      ]
   | inr none ↦ absurd cc
 ]

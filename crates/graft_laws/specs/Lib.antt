@@ -2,5 +2,7 @@ pub mod Alike
 pub mod Histories
 pub mod Kernels
 pub mod Points
-pub mod Sessions
 pub mod Stability
+pub mod Notes
+pub mod SoundCalls
+pub mod Ticks

@@ -2,9 +2,10 @@
 #![tactic(auto)]
 
 pub mod alike;
+pub mod fallen;
 pub mod histories;
 pub mod kernels;
-pub mod sessions;
+pub mod notes;
 pub mod stability;
-#[cfg(test)]
-mod tests;
+pub mod store;
+pub mod ticks;

@@ -1,3 +1,4 @@
+pub use Rattle.graft_machine.proofs.Sandbox
 pub mod Answering
 pub mod Listed
 pub mod Undoing

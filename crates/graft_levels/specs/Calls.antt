@@ -19,7 +19,7 @@ use Rattle.graft_machine.specs.Cpu.{machine_of}
 use Rattle.graft_machine.specs.Contained.{IsOutside}
 use Rattle.kernel_state.specs.declared.Store.{Store}
 use Rattle.kernel_state.specs.Stores.{world_of_store, objects_of, queue_of}
-use Rattle.kernel_state.specs.Accesses.{CanBeUndone, StayUndoable}
+use Rattle.graft_accessors.specs.Accesses.{CanBeUndone, StayUndoable}
 use Rattle.graft_levels.specs.declared.GraftLevel.{GraftLevel}
 use Rattle.graft_levels.specs.declared.Chain.{Chain}
 use Rattle.graft_levels.specs.declared.Innermost.{Innermost}

@@ -18,7 +18,7 @@ use Rattle.graft_machine.specs.Cpu.{machine_of}
 use Rattle.kernel_state.specs.declared.Store.{Store}
 use Rattle.kernel_state.specs.Sound.{segment_number}
 use Rattle.kernel_state.specs.Stores.{objects_of, body_at}
-use Rattle.segments.specs.Tables.{Table}
+use Rattle.kernel_state.specs.Tables.{Table}
 use Rattle.graft_levels.specs.declared.GraftLevel.{GraftLevel}
 use Rattle.graft_levels.specs.declared.Chain.{Chain}
 use Rattle.graft_levels.specs.declared.Innermost.{Innermost}

@@ -1,3 +1,9 @@
+pub use Rattle.graft_loader.specs.Slots
+pub use Rattle.graft_machine.specs.Contained
+pub use Rattle.graft_machine.specs.Cpu
+pub use Rattle.graft_machine.specs.Stretch
+pub use Rattle.lock_table.specs.Masks
+pub use Rattle.undo_calls.specs.UndoLevels
 pub mod Chains
 pub mod Calls
 pub mod Moments

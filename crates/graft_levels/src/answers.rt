@@ -1,7 +1,7 @@
 //! How an answer goes to the level that asked.
 
 ghost use Rattle.std.specs.Prelude.{◌≡◌, ◌≤◌, ℕ, ◌∷◌, [], List, length, slice_index};
-ghost use Rattle.kernel_model.specs.declared.QueueRow.{QueueRow as Waiting};
+ghost use Rattle.kernel_model.specs.declared.QueueRow.{QueueRow};
 ghost use Rattle.kernel_model.specs.Boxed.{IsInside};
 ghost use Rattle.kernel_model.specs.declared.Instr.{Instr};
 ghost use Rattle.kernel_model.specs.Levels.{answered, answer_innermost};
@@ -47,7 +47,7 @@ pub fn give_answer(levels: &mut Levels, pt: u8, r0: u32, r1: u32)
         levels_in p ram t levels.new log w
         ≡ answer_innermost pt r0 r1 (levels_in p ram t levels.old log w) }
     ensures count { length levels.new ≡ length levels.old }
-    ensures sound { (queue : List Waiting) → AreSound queue levels.old → AreSound queue levels.new }
+    ensures sound { (queue : List QueueRow) → AreSound queue levels.old → AreSound queue levels.new }
     ensures inside { (images : ImageTable) (a : Accounts) (p : ℕ) →
         AreInside images a p levels.old → AreInside images a p levels.new }
 {

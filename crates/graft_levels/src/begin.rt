@@ -21,12 +21,10 @@ use crate::filling::{base_of, fill};
 use crate::keeping::first_bytes;
 use crate::laws::stores_are_whole;
 use crate::{Chain, GraftLevel};
-use graft_accounts::GraftPoint;
 use graft_loader::{Images, Loaded};
 use graft_machine::Machine;
-use graft_points::Policy;
 use kernel_model::{Need, Point};
-use kernel_state::Store;
+use kernel_state::{GraftPoint, Policy, Store};
 use lock_table::{Holder, LockTable};
 
 /// A level holds objects, each in the mode in which it is needed.
@@ -92,7 +90,7 @@ pub fn begin_level<B: Policy>(
         point: at.point,
         count: 0,
         args: at.args,
-        machine: Machine::begin(base, at.args),
+        machine: Machine::new(base, at.args),
     });
 }
 
@@ -111,7 +109,7 @@ impl Chain {
     /// The graft call of a process begins, where a piece asks a point at which a graft stands:
     /// level 0 holds what the piece needs, and is fed the piece's bytes. The process holds nothing
     /// before.
-    pub fn begin<B: Policy>(
+    pub fn begin_call<B: Policy>(
         &mut self,
         p: u8,
         store: &mut Store<B>,

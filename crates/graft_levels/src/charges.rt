@@ -4,12 +4,12 @@ ghost use Rattle.std.specs.Prelude.{◌≡◌, ◌≢◌, ◌+◌, ◌<◌, ◌�
 ghost use Rattle.kernel_model.specs.declared.Kind.TheVariants.{Steps, Records, Locks};
 ghost use Rattle.kernel_model.specs.Charges.{charge, funds};
 ghost use Rattle.kernel_model.specs.Levels.{limit_in};
-ghost use Rattle.graft_accounts.specs.Table.{accounts_of};
+ghost use Rattle.kernel_state.specs.Table.{accounts_of};
 ghost use Rattle.undo_calls.specs.UndoLevels.{records_of};
 
 use crate::GraftLevel;
-use graft_accounts::{Accounts, GraftPoint};
 use kernel_model::Kind;
+use kernel_state::{Accounts, GraftPoint};
 use undo_calls::{RECORDS, UndoStack};
 
 /// Charges a level for one more instruction. False, with nothing changed, exactly where its count

@@ -3,12 +3,12 @@
 ghost use Rattle.std.specs.Prelude.{◌≡◌, ◌<◌, Some, None, true, length, is_some, IfSome, IfNone};
 ghost use Rattle.kernel_model.specs.Boxed.{IsBoxed};
 ghost use Rattle.kernel_model.specs.Levels as model;
-ghost use Rattle.graft_accounts.specs.Table.{accounts_of};
+ghost use Rattle.kernel_state.specs.Table.{accounts_of};
 ghost use Rattle.graft_loader.specs.Slots.{table_of};
 
 use box_verify::Verified;
-use graft_accounts::{Accounts, GraftPoint};
 use graft_loader::{Images, Loaded};
+use kernel_state::{Accounts, GraftPoint};
 
 /// The image of the graft at a point, if it is loaded.
 pub(crate) fn find_image<'a>(

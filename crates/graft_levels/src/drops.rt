@@ -1,28 +1,26 @@
 //! The drop of a level.
 
 ghost use Rattle.std.specs.Prelude.{◌≡◌, ℕ, suc, ◌<◌, ◌≤◌, [], ◌∷◌, true, length};
-ghost use Rattle.kernel_model.specs.declared.Inverse.{Inverse as Undoing};
+ghost use Rattle.kernel_model.specs.declared.Inverse.{Inverse};
 ghost use Rattle.kernel_model.specs.Levels.{drop_innermost as innermost_dropped, drop_level as level_dropped};
 ghost use Rattle.kernel_model.specs.Locks.{release_from};
 ghost use Rattle.kernel_model.specs.Policies.{lives};
 ghost use Rattle.kernel_model.specs.Sound.{ImagesAreLoaded};
 ghost use Rattle.kernel_model.specs.World.{ImageTable};
-ghost use Rattle.kernel_state.specs.Accesses.{CanBeUndone};
+ghost use Rattle.graft_accessors.specs.Accesses.{CanBeUndone};
 ghost use Rattle.kernel_state.specs.Stores.{world_of_store, objects_of, queue_of};
 ghost use Rattle.lock_table.specs.Masks.{held};
 ghost use Rattle.undo_calls.specs.UndoLevels.{innermost};
 ghost use Rattle.graft_levels.specs.Chains.{put_back_on, came, call_of, levels_of, outer};
 ghost use Rattle.graft_levels.specs.Calls.{AreSound, AreInside, AreUndoable, AllUndoable};
 ghost use Rattle.graft_levels.specs.Calls.{IsPutBack, IsPlaced, IsTaken, IsElsewhereSame};
-ghost use Rattle.graft_levels.specs.Moments.{Comes, moment};
+ghost use Rattle.graft_levels.specs.Moments.{Comes, chain_moment};
 
 use crate::answers::give_answer;
 use crate::points::default_of;
 use crate::{Chain, Innermost};
-use graft_accounts::GraftPoint;
-use graft_points::Policy;
 use kernel_model::{Cause, Micro};
-use kernel_state::Store;
+use kernel_state::{GraftPoint, Policy, Store};
 use lock_table::{Holder, LockTable};
 use undo_calls::UndoStack;
 
@@ -36,7 +34,7 @@ pub(crate) fn undo_records<B: Policy>(undo: &mut UndoStack, store: &mut Store<B>
     ensures store { IsPutBack (innermost undo.old) store.old store.new }
 {
     if let Some(found) = undo.newest() {
-        store.undo(found.inverse, found.bytes);
+        graft_accessors::undo(store, found.inverse, found.bytes);
         undo.forget_newest();
         undo_records(undo, store);
     }
@@ -94,8 +92,8 @@ pub fn drop_innermost<B: Policy>(
     cause: Cause,
 ) -> Micro
     requires placed { IsTaken store.old locks.old inner chain.old }
-    ensures { Comes inner (moment store.old locks.old chain.old)
-        (moment store.new locks.new chain.new) result
+    ensures { Comes inner (chain_moment store.old locks.old chain.old)
+        (chain_moment store.new locks.new chain.new) result
         (λ v w l ls. innermost_dropped v w l ls cause) }
 {
     let level = &inner.level;
@@ -107,7 +105,12 @@ pub fn drop_innermost<B: Policy>(
     store.accounts.remove(at);
     let (r0, r1) = default_of(store, level.owner, level.point);
     give_answer(&mut chain.levels, level.point, r0, r1);
-    Micro::Dropped(chain.levels.count(), level.owner, level.point, cause)
+    Micro::Dropped {
+        depth: chain.levels.count(),
+        installer: level.owner,
+        point: level.point,
+        cause,
+    }
 }
 
 impl Chain {

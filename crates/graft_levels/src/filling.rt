@@ -6,8 +6,8 @@ ghost use Rattle.kernel_model.specs.Levels as model;
 ghost use Rattle.kernel_model.specs.Machine.{fed};
 
 use graft_machine::{FIRST_SEGMENT, SEGMENT_BYTES};
+use kernel_state::Ram;
 use lock_table::Holder;
-use ram_space::Ram;
 
 /// Where in a segment the bytes begin that its level is fed.
 const FED_AT: u32 = 2048;

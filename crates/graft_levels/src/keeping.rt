@@ -5,11 +5,11 @@ ghost use Rattle.kernel_model.specs.declared.Kind.TheVariants.{Records};
 ghost use Rattle.kernel_model.specs.Charges.{funds};
 ghost use Rattle.kernel_model.specs.Levels as model;
 ghost use Rattle.kernel_model.specs.Levels.{keeps_in, segment_with};
-ghost use Rattle.graft_accounts.specs.Table.{accounts_of};
+ghost use Rattle.kernel_state.specs.Table.{accounts_of};
 ghost use Rattle.graft_loader.specs.Loading.{IsLoaded};
 ghost use Rattle.graft_loader.specs.Slots.{table_of};
 ghost use Rattle.kernel_state.specs.Stores.{world_of_store, objects_of, queue_of};
-ghost use Rattle.segments.specs.Tables.{by_place};
+ghost use Rattle.kernel_state.specs.Tables.{by_place};
 ghost use Rattle.undo_calls.specs.UndoLevels.{recorded, records_of, segment_logged};
 ghost use Rattle.graft_levels.specs.Chains.{kept_bytes, kept_on};
 ghost use Rattle.graft_levels.specs.Moments.{HasRoom};
@@ -17,11 +17,8 @@ ghost use Rattle.graft_levels.specs.Moments.{HasRoom};
 use crate::GraftLevel;
 use crate::charges::pay_record;
 use crate::code::find_image;
-use graft_accounts::{Accounts, GraftPoint};
 use graft_loader::{Images, Loaded};
-use graft_points::Policy;
-use kernel_state::{Store, segment_number};
-use segments::Segments;
+use kernel_state::{Accounts, GraftPoint, Policy, Segments, Store, segment_number};
 use undo_calls::UndoStack;
 
 /// Whether the image of the graft at a point keeps segments.

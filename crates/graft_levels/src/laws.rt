@@ -1,11 +1,10 @@
 //! What holds of every store. A call brings its statement into a proof.
 
 ghost use Rattle.std.specs.Prelude.{◌≡◌, length};
-ghost use Rattle.buffer_cache.specs.Frames.{IsFrames};
-ghost use Rattle.process_table.specs.Processes.{IsSound, processes_of};
+ghost use Rattle.kernel_state.specs.Frames.{IsFrames};
+ghost use Rattle.kernel_state.specs.Processes.{IsSound, processes_of};
 
-use graft_points::Policy;
-use kernel_state::Store;
+use kernel_state::{Policy, Store};
 
 /// The rows of a store's frames are sound, its memory has all its bytes, and its processes are
 /// sound.

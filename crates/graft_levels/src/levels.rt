@@ -20,7 +20,7 @@ impl Default for GraftLevel {
             point: 0,
             count: 0,
             args: [0; 4],
-            machine: Machine::begin(FIRST_SEGMENT, [0; 4]),
+            machine: Machine::new(FIRST_SEGMENT, [0; 4]),
         }
     }
 }

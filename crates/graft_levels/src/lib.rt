@@ -25,12 +25,14 @@ pub use begin::{PieceAsk, begin_level, touch_needs};
 pub use code::{code_of, image_of};
 pub use drops::drop_innermost;
 pub use filling::base_of;
-use graft_machine::Machine;
+pub use graft_loader::{Images, Loaded};
+pub use graft_machine::{Machine, Outcome};
 pub use keeping::{keep, keeps};
 pub use levels::{Levels, MOST_LEVELS};
+pub use lock_table::{Holder, Holds, LockTable};
 pub use needs::{Needs, asked_needs, asked_point};
 pub use points::{args_of, default_of, is_valid};
-use undo_calls::UndoStack;
+pub use undo_calls::UndoStack;
 
 /// A level of a graft call: one run of the graft that `owner` installed at `point`.
 #[derive(Drop)]

@@ -12,12 +12,12 @@ ghost use Rattle.kernel_model.specs.GraftStep.{next_needs, lock_user as user_of_
 ghost use Rattle.kernel_model.specs.Laws.{IsInRange};
 ghost use Rattle.kernel_model.specs.Levels as model;
 ghost use Rattle.kernel_model.specs.Levels.{Level};
-ghost use Rattle.kernel_model.specs.Locks.{LockTable as Table};
+ghost use Rattle.kernel_model.specs.Locks.{LockTable};
 ghost use Rattle.kernel_model.specs.Machine as machines;
 ghost use Rattle.kernel_model.specs.Objects.{Things};
 ghost use Rattle.kernel_model.specs.World.{World};
 ghost use Rattle.undo_calls.specs.UndoLevels.{Logged};
-ghost use Rattle.graft_accounts.specs.Table.{accounts_of};
+ghost use Rattle.kernel_state.specs.Table.{accounts_of};
 ghost use Rattle.kernel_state.specs.Stores.{world_of_store, objects_of, queue_of};
 ghost use Rattle.graft_machine.specs.Cpu.{machine_of};
 ghost use Rattle.graft_loader.specs.Slots.{table_of};
@@ -28,11 +28,9 @@ use crate::answers::arguments;
 use crate::code::find_image;
 use crate::{Chain, GraftLevel};
 use accessor_list::{early, ids};
-use graft_accounts::{Accounts, GraftPoint};
 use graft_loader::Images;
-use graft_points::Policy;
 use kernel_model::{Kind, LAST_CALLABLE, Mode, Need, Object};
-use kernel_state::Store;
+use kernel_state::{Accounts, GraftPoint, Policy, Store};
 use std::marker::Model;
 
 /// The most objects that an instruction needs: those of an ask.
@@ -146,7 +144,7 @@ pub fn asked_needs(id: u32, r0: u32, q: u8) -> [Need; 2]
 
 /// What a call of an id needs: nothing where it is refused by its arguments.
 fn call_needs(id: u32, level: &GraftLevel) -> Needs
-    ensures value { (v : World) (p d : ℕ) (ram : List ℕ) (t : Table) (is : List Logged)
+    ensures value { (v : World) (p d : ℕ) (ram : List ℕ) (t : LockTable) (is : List Logged)
         (w : Things) → v.callable ≡ LAST_CALLABLE →
         let l = level_in p d ram t level.now is w in
         result ≡ needs_of_call v l id
@@ -216,7 +214,7 @@ fn next_call(level: &GraftLevel, accounts: &Accounts, images: &Images) -> Option
 
 /// What the next instruction of a level needs.
 fn level_needs(level: &GraftLevel, accounts: &Accounts, images: &Images) -> Needs
-    ensures value { (v : World) (p d : ℕ) (ram : List ℕ) (t : Table) (is : List Logged)
+    ensures value { (v : World) (p d : ℕ) (ram : List ℕ) (t : LockTable) (is : List Logged)
         (w : Things) (ls : List Level) → v.callable ≡ LAST_CALLABLE →
         result ≡ next_needs v (table_of images.now) (accounts_of accounts.now)
         (level_in p d ram t level.now is w ∷ ls) }
@@ -235,7 +233,7 @@ impl Chain {
     /// What the next instruction needs: the objects of its call, if it is one that isn't refused by
     /// its arguments.
     pub fn needs<B: Policy>(&self, store: &Store<B>, images: &Images) -> Needs
-        ensures value { (p : ℕ) (ram : List ℕ) (t : Table) (log : List (List Logged))
+        ensures value { (p : ℕ) (ram : List ℕ) (t : LockTable) (log : List (List Logged))
             (w : Things) →
             result ≡ next_needs (world_of_store store.now) (table_of images.now)
             (objects_of store.now).accounts (levels_in p ram t self.now.levels log w) }
@@ -250,7 +248,7 @@ impl Chain {
     /// Whose user locks don't hinder the next instruction: those of the innermost level's
     /// installer, or else of process p.
     pub fn lock_user(&self, p: u8) -> u8
-        ensures { (q : ℕ) (ram : List ℕ) (t : Table) (log : List (List Logged)) (w : Things) →
+        ensures { (q : ℕ) (ram : List ℕ) (t : LockTable) (log : List (List Logged)) (w : Things) →
             result ≡ user_of_locks p (levels_in q ram t self.now.levels log w) }
     {
         match self.levels.innermost() {

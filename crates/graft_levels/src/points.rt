@@ -7,8 +7,7 @@ ghost use Rattle.kernel_model.specs.Policies as spec;
 ghost use Rattle.kernel_state.specs.Stores.{world_of_store, objects_of, queue_of};
 
 use crate::GraftLevel;
-use graft_points::{Policy, valid_ahead};
-use kernel_state::Store;
+use kernel_state::{Policy, Store, valid_ahead};
 
 /// What is to be read ahead by default of the file at descriptor fd of process q, which lives: from
 /// which block on, how many, and how many blocks the file has. Zeros where none is open.

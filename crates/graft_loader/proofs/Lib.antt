@@ -4,3 +4,4 @@ pub mod Masking
 pub mod Slots
 mod Sealed
 mod Loadable
+pub mod HexDigits

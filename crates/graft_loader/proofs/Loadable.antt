@@ -1,18 +1,25 @@
 -- What loads is within the limits of images, and boxed.
-use Rattle.std.proofs.Common.{◌≡◌, ℕ, zero, suc, ◌+◌, ◌-◌, ◌*◌, ◌≤◌, ◌==◌, Bool, true, false, cond, List, [], ◌∷◌, length, take, drop, codes, Option, None, Some, Result, Ok, Err, refl, sym, ap, ◌∙◌, arith, length-drop, length-take, nat_le, nat_lt}
+use Rattle.std.proofs.Common.{◌≡◌, ℕ, zero, suc, ◌+◌, ◌-◌, ◌*◌, ◌≤◌, ◌==◌, Bool, true, false, cond}
+use Rattle.std.proofs.Common.{List, [], ◌∷◌, length, take, drop, codes, Option, None, Some, Result}
+use Rattle.std.proofs.Common.{Ok, Err, refl, sym, ap, ◌∙◌, arith, length-drop, length-take, nat_le}
+use Rattle.std.proofs.Common.{nat_lt}
 use Rattle.std.specs.List.{list_all}
 use Rattle.std.specs.Prelude.{slice_index}
 use Rattle.std.proofs.lemmas.Bool.{eqb-true}
 use Rattle.std.proofs.lemmas.Bool.Decides.{nat_tests}
-use Rattle.kernel_model.specs.declared.Instr.{Instr}
-use Rattle.kernel_model.specs.declared.Op.{Op}
-use Rattle.kernel_model.specs.declared.Keys.{Keys}
-use Rattle.kernel_model.specs.declared.IsaFault.{IsaFault}
-use Rattle.kernel_model.specs.Bytes.{word_at}
-use Rattle.kernel_model.specs.World.{Image, same_bytes}
-use Rattle.kernel_model.specs.Instructions.{decode, decode_by, fits, instr_of, op_numbered}
-use Rattle.kernel_model.specs.Boxed.{BoxFault, box_fault}
-use Rattle.kernel_model.specs.Images.{LoadFault, Length, TooLarge, Magic, Version, BadFlags, Seal, hmac, key_of, last_key, head_of, flags_of, keep_of, number_of, is_version, size_fault, head_fault, is_too_large, with_first, decoded, image_with, verified, boxed_image, unsealed, load_by_key, load_by_head, load, sealed_under, reseal}
+use Rattle.graft_code.specs.declared.Instr.{Instr}
+use Rattle.graft_code.specs.declared.Op.{Op}
+use Rattle.graft_code.specs.declared.Keys.{Keys}
+use Rattle.graft_code.specs.declared.IsaFault.{IsaFault}
+use Rattle.graft_code.specs.Bytes.{word_at}
+use Rattle.graft_code.specs.World.{Image, same_bytes}
+use Rattle.graft_code.specs.Instructions.{decode, decode_by, fits, instr_of, op_numbered}
+use Rattle.graft_code.specs.Boxed.{BoxFault, box_fault}
+use Rattle.graft_code.specs.Images.{LoadFault, Length, TooLarge, Magic, Version, BadFlags, Seal}
+use Rattle.graft_code.specs.Images.{hmac, key_of, last_key, head_of, flags_of, keep_of, number_of}
+use Rattle.graft_code.specs.Images.{is_version, size_fault, head_fault, is_too_large, with_first}
+use Rattle.graft_code.specs.Images.{decoded, image_with, verified, boxed_image, unsealed}
+use Rattle.graft_code.specs.Images.{load_by_key, load_by_head, load, sealed_under, reseal}
 use Rattle.gm_isa.specs.Laws.{DecodeUndoesEncode}
 use Rattle.graft_loader.specs.Laws.{IsBoxedImage}
 use Rattle.graft_loader.proofs.Sealed.{sealed_loads}
@@ -20,7 +27,8 @@ use Rattle.graft_loader.proofs.Sealed.{sealed_loads}
 -- ---- instructions
 
 -- an instruction that passes the test
-checked_fits : (i j : Instr) (b : Bool) → fits i ≡ b → ◌≡◌ {A = Result Instr IsaFault} (cond b (Ok i) (Err IsaFault.BadField)) (Ok j) → fits j ≡ true
+checked_fits : (i j : Instr) (b : Bool) → fits i ≡ b →
+    ◌≡◌ {A = Result Instr IsaFault} (cond b (Ok i) (Err IsaFault.BadField)) (Ok j) → fits j ≡ true
 checked_fits i j true f h = let same : i ≡ j = cc in rw (← same) f
 checked_fits i j false f h = cc
 
@@ -33,7 +41,8 @@ record AreSound (n : ℕ) (code : List Instr) : Type 0 where
   count : length code ≡ n
   fit : list_all fits code ≡ true
 
-one_more : (n pc : ℕ) (bytes : List ℕ) (code : List Instr) (first : Result Instr IsaFault) (rest : Result (List Instr) LoadFault)
+one_more : (n pc : ℕ) (bytes : List ℕ) (code : List Instr) (first : Result Instr IsaFault)
+    (rest : Result (List Instr) LoadFault)
     → decode bytes ≡ first → ((is : List Instr) → rest ≡ Ok is → AreSound n is) → with_first first pc rest ≡ Ok code
     → AreSound (suc n) code
 one_more n pc bytes code (Err fault) rest d later h = cc
@@ -54,7 +63,8 @@ decoded_sound (suc n) pc bytes code h =
 -- ---- the tests in their order
 
 -- an image that the verifier passes
-boxed_is : (j i : Image) (fault : Option BoxFault) → box_fault j.code ≡ fault → boxed_image j fault ≡ Ok i → (j ≡ i) × (box_fault i.code ≡ None)
+boxed_is : (j i : Image) (fault : Option BoxFault) → box_fault j.code ≡ fault →
+    boxed_image j fault ≡ Ok i → (j ≡ i) × (box_fault i.code ≡ None)
 boxed_is j i None f h = let same : j ≡ i = cc in (same, rw (← same) f)
 boxed_is j i (Some fault) f h = cc
 
@@ -65,7 +75,8 @@ record IsSound (n d : ℕ) (i : Image) : Type 0 where
   body_count : length i.body ≡ d
   boxed : box_fault i.code ≡ None
 
-verified_sound : (n d : ℕ) (keep : Bool) (body xs : List ℕ) (i : Image) (code : Result (List Instr) LoadFault) → decoded n 0 xs ≡ code
+verified_sound : (n d : ℕ) (keep : Bool) (body xs : List ℕ) (i : Image)
+    (code : Result (List Instr) LoadFault) → decoded n 0 xs ≡ code
     → length body ≡ d → verified (image_with keep body code) ≡ Ok i → IsSound n d i
 verified_sound n d keep body xs i (Err fault) c size h = cc
 verified_sound n d keep body xs i (Ok code) c size h =
@@ -81,7 +92,8 @@ verified_sound n d keep body xs i (Ok code) c size h =
     }
 
 -- a right seal
-seal_sound : (bytes : List ℕ) (i : Image) (same : Bool) → length bytes ≡ head_of bytes + 32 + 8 * word_at bytes 8 + word_at bytes 12
+seal_sound : (bytes : List ℕ) (i : Image) (same : Bool) →
+    length bytes ≡ head_of bytes + 32 + 8 * word_at bytes 8 + word_at bytes 12
     → (elim same as (λ b. Result Image LoadFault) [
       | false ↦ Err Seal
       | true ↦ unsealed (keep_of bytes) (head_of bytes) (word_at bytes 8) (take (length bytes - 32) bytes)
@@ -93,7 +105,8 @@ seal_sound bytes i true sized h =
     let n = word_at bytes 8 in
     let size : length (drop (head_of bytes + 8 * n) text) ≡ word_at bytes 12 =
     omega (arith, length-drop (head_of bytes + 8 * n) text, length-take (length bytes - 32) bytes, sized) in
-    verified_sound n (word_at bytes 12) (keep_of bytes) (drop (head_of bytes + 8 * n) text) (drop (head_of bytes) text) i
+    verified_sound n (word_at bytes 12) (keep_of bytes) (drop (head_of bytes + 8 * n) text)
+    (drop (head_of bytes) text) i
     (decoded n 0 (drop (head_of bytes) text)) refl size h
 
 key_sound : (found : Option (List ℕ)) (bytes : List ℕ) (i : Image)
@@ -162,7 +175,8 @@ loaded_is : (keys : Keys) (bytes : List ℕ) (i : Image) (fault : Option LoadFau
     → load_by_head keys bytes fault ≡ Ok i → IsBoxedImage i
 loaded_is keys bytes i (Some fault) f h = cc
 loaded_is keys bytes i None f h =
-    let p = head_passed bytes (nat_lt (length bytes) 48) (same_bytes (take 4 bytes) (codes "VGR1")) (is_version (word_at bytes 4)) f in
+    let p = head_passed bytes (nat_lt (length bytes) 48) (same_bytes (take 4 bytes) (codes "VGR1"))
+    (is_version (word_at bytes 4)) f in
     let s = flags_sound keys bytes i (nat_le (flags_of bytes) 1) p.sized h in
     record {
       raw = record {

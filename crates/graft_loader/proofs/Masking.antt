@@ -11,5 +11,6 @@ masked_more f xs ys i h room more =
     ∙ sym (ap (map f) (take_more xs i 0 room) ∙ map-append f (take i xs) (get_or xs i 0 ∷ []))
 
 -- all bytes are changed
-pub masked_all : (f : ℕ → ℕ) (xs ys : List ℕ) (i : ℕ) → take i ys ≡ map f (take i xs) → length xs ≤ i → length ys ≤ i → ys ≡ map f xs
+pub masked_all : (f : ℕ → ℕ) (xs ys : List ℕ) (i : ℕ) → take i ys ≡ map f (take i xs) →
+    length xs ≤ i → length ys ≤ i → ys ≡ map f xs
 masked_all f xs ys i h long all = sym (take_all i ys all) ∙ h ∙ ap (map f) (take_all i xs long)

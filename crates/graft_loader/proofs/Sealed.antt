@@ -1,17 +1,24 @@
 -- What is sealed loads.
-use Rattle.std.proofs.Common.{◌≡◌, ℕ, suc, ◌+◌, ◌-◌, ◌*◌, ◌≤◌, ◌==◌, Bool, true, false, cond, nat_le, List, [], ◌∷◌, ◌++◌, length, take, drop, Option, None, Some, Result, Ok, Err, refl, sym, ap, ◌∙◌, append_assoc, arith, length-append}
+use Rattle.std.proofs.Common.{◌≡◌, ℕ, suc, ◌+◌, ◌-◌, ◌*◌, ◌≤◌, ◌==◌, Bool, true, false, cond}
+use Rattle.std.proofs.Common.{nat_le, List, [], ◌∷◌, ◌++◌, length, take, drop, Option, None, Some}
+use Rattle.std.proofs.Common.{Result, Ok, Err, refl, sym, ap, ◌∙◌, append_assoc, arith}
+use Rattle.std.proofs.Common.{length-append}
 use Rattle.std.proofs.Math.Seq.{take-append_seam, drop-append_seam}
 use Rattle.std.proofs.lemmas.List.{drop-drop}
 use Rattle.std.specs.List.{list_all}
 use Rattle.std.proofs.lemmas.Bool.{eq-eqb, eqb-true}
 use Rattle.std.proofs.lemmas.Slice.Eq.{bytes_eq-Decides}
 use Rattle.sha2.proofs.Facts256.{length-sha256}
-use Rattle.kernel_model.specs.declared.Instr.{Instr}
-use Rattle.kernel_model.specs.declared.Keys.{Keys}
-use Rattle.kernel_model.specs.Bytes.{word_at}
-use Rattle.kernel_model.specs.World.{Image, plain_image, same_bytes}
-use Rattle.kernel_model.specs.Instructions.{fits}
-use Rattle.kernel_model.specs.Images.{LoadFault, BadFlags, hmac, with_seal, code_bytes, first_head, second_head, first_sealed_image, sealed_image, flags_with, key_of, head_of, flags_of, keep_of, number_of, size_fault, head_fault, decoded, image_with, verified, boxed_image, unsealed, load_by_seal, load_by_key, load_by_head, load}
+use Rattle.graft_code.specs.declared.Instr.{Instr}
+use Rattle.graft_code.specs.declared.Keys.{Keys}
+use Rattle.graft_code.specs.Bytes.{word_at}
+use Rattle.graft_code.specs.World.{Image, plain_image, same_bytes}
+use Rattle.graft_code.specs.Instructions.{fits}
+use Rattle.graft_code.specs.Images.{LoadFault, BadFlags, hmac, with_seal, code_bytes, first_head}
+use Rattle.graft_code.specs.Images.{second_head, first_sealed_image, sealed_image, flags_with}
+use Rattle.graft_code.specs.Images.{key_of, head_of, flags_of, keep_of, number_of, size_fault}
+use Rattle.graft_code.specs.Images.{head_fault, decoded, image_with, verified, boxed_image}
+use Rattle.graft_code.specs.Images.{unsealed, load_by_seal, load_by_key, load_by_head, load}
 use Rattle.gm_isa.specs.Laws.{DecodeUndoesEncode}
 use Rattle.gm_image.proofs.Reading.{not_below, few}
 use Rattle.gm_image.proofs.RoundTrips.{length-code_bytes, first_true, second_true, word_is}
@@ -40,13 +47,15 @@ same_as_itself : (xs : List ℕ) → same_bytes xs xs ≡ true
 same_as_itself xs = (bytes_eq-Decides xs xs).1 refl
 
 -- what is said of bytes whose text and seal are these
-by_parts : (key bytes text seal : List ℕ) → take (length bytes - 32) bytes ≡ text → drop (length bytes - 32) bytes ≡ seal
+by_parts : (key bytes text seal : List ℕ) → take (length bytes - 32) bytes ≡ text →
+    drop (length bytes - 32) bytes ≡ seal
     → load_by_seal key bytes ≡ (elim (same_bytes (hmac key text) seal) as (λ b. Result Image LoadFault) [
       | false ↦ Err LoadFault.Seal
       | true ↦ unsealed (keep_of bytes) (head_of bytes) (word_at bytes 8) text
     ])
 by_parts key bytes text seal t s =
-    ap (λ (xs : List ℕ). elim (same_bytes (hmac key xs) (drop (length bytes - 32) bytes)) as (λ b. Result Image LoadFault) [
+    ap (λ (xs : List ℕ). elim (same_bytes (hmac key xs)
+    (drop (length bytes - 32) bytes)) as (λ b. Result Image LoadFault) [
       | false ↦ Err LoadFault.Seal
       | true ↦ unsealed (keep_of bytes) (head_of bytes) (word_at bytes 8) xs
     ]) t
@@ -63,7 +72,8 @@ seal_passes key text =
     by_parts key (with_seal key text) text (hmac key text) (text_is key text) (seal_is key text)
     ∙ ap (λ (b : Bool). elim b as (λ b. Result Image LoadFault) [
       | false ↦ Err LoadFault.Seal
-      | true ↦ unsealed (keep_of (with_seal key text)) (head_of (with_seal key text)) (word_at (with_seal key text) 8) text
+      | true ↦ unsealed (keep_of (with_seal key text)) (head_of (with_seal key text))
+          (word_at (with_seal key text) 8) text
     ]) (same_as_itself (hmac key text))
 
 -- the bytes of code that fits decode to it, whatever stands behind them
@@ -75,7 +85,8 @@ decoded-code law (i ∷ is) pc rest h =
     (rw (decoded-code law is (suc pc) rest (second_true (fits i) (list_all fits is) h)) refl)
 
 -- what is said of a text whose data and code are these
-by_code : (keep : Bool) (head n : ℕ) (text rest body : List ℕ) (code : Result (List Instr) LoadFault) → drop (head + 8 * n) text ≡ body
+by_code : (keep : Bool) (head n : ℕ) (text rest body : List ℕ)
+    (code : Result (List Instr) LoadFault) → drop (head + 8 * n) text ≡ body
     → drop head text ≡ rest → decoded n 0 rest ≡ code → unsealed keep head n text ≡ verified (image_with keep body code)
 by_code keep head n text rest body code b r d = rw (← d, ← r, ← b) refl
 
@@ -92,7 +103,8 @@ unsealed_is law head i h =
     let data_is : drop (length head + 8 * length i.code) (head ++ code_bytes i.code ++ i.body) ≡ i.body =
     sym (drop-drop (8 * length i.code) (length head) (head ++ code_bytes i.code ++ i.body))
     ∙ ap (drop (8 * length i.code)) behind ∙ data_behind in
-    by_code i.keep (length head) (length i.code) (head ++ code_bytes i.code ++ i.body) rest i.body (Ok i.code) data_is behind
+    by_code i.keep (length head) (length i.code) (head ++ code_bytes i.code ++ i.body) rest i.body
+    (Ok i.code) data_is behind
     (decoded-code law i.code 0 i.body h.raw.code_fits)
     ∙ ap (boxed_image i) h.boxed
 
@@ -107,10 +119,12 @@ sizes_pass head bytes n d n_is d_is h g len =
 
 -- the length of what is sealed with a head
 sealed_length : (key head : List ℕ) (i : Image)
-    → length (with_seal key (head ++ code_bytes i.code ++ i.body)) ≡ length head + 32 + 8 * length i.code + length i.body
+    → length (with_seal key (head ++ code_bytes i.code ++ i.body))
+    ≡ length head + 32 + 8 * length i.code + length i.body
 sealed_length key head i =
     let text = head ++ code_bytes i.code ++ i.body in
-    let whole : length (with_seal key text) ≡ length text + length (hmac key text) = length-append text (hmac key text) in
+    let whole : length (with_seal key text) ≡ length text + length (hmac key text) =
+    length-append text (hmac key text) in
     let front : length text ≡ length (head ++ code_bytes i.code) + length i.body =
     length-append (head ++ code_bytes i.code) i.body in
     let first : length (head ++ code_bytes i.code) ≡ length head + length (code_bytes i.code) =
@@ -141,7 +155,8 @@ first_passes key i h =
 -- what is sealed with a head of this length and count loads, if there is the key
 loads_by_key : DecodeUndoesEncode → (key head : List ℕ) (i : Image) → IsBoxedImage i
     → let bytes = with_seal key (head ++ code_bytes i.code ++ i.body) in
-    keep_of bytes ≡ i.keep → head_of bytes ≡ length head → length i.code ≡ word_at bytes 8 → load_by_seal key bytes ≡ Ok i
+    keep_of bytes ≡ i.keep → head_of bytes ≡ length head → length i.code ≡ word_at bytes 8 →
+    load_by_seal key bytes ≡ Ok i
 loads_by_key law key head i h keep_is head_is count =
     seal_passes key (head ++ code_bytes i.code ++ i.body)
     ∙ rw keep_is (rw head_is (rw (← count) (unsealed_is law head i h)))
@@ -163,7 +178,8 @@ flags_tell true = refl
 flags_tell false = refl
 
 -- the key of a number that has one is 0 or 1
-small_by : (keys : Keys) (number : ℕ) (key : List ℕ) (first second : Bool) → (number == 0) ≡ first → (number == 1) ≡ second
+small_by : (keys : Keys) (number : ℕ) (key : List ℕ) (first second : Bool) → (number == 0) ≡ first →
+    (number == 1) ≡ second
     → cond first (Some keys.first) (cond second keys.second None) ≡ Some key → number ≤ 1
 small_by keys number key true second f s h = omega (arith, eqb-true number 0 f)
 small_by keys number key false true f s h = omega (arith, eqb-true number 1 s)
@@ -173,7 +189,8 @@ small_number : (keys : Keys) (number : ℕ) (key : List ℕ) → key_of keys num
 small_number keys number key h = small_by keys number key (number == 0) (number == 1) refl refl h
 
 -- an image of version 2 loads
-pub sealed_loads : DecodeUndoesEncode → (keys : Keys) (number : ℕ) (key : List ℕ) (i : Image) → key_of keys number ≡ Some key
+pub sealed_loads : DecodeUndoesEncode → (keys : Keys) (number : ℕ) (key : List ℕ) (i : Image) →
+    key_of keys number ≡ Some key
     → IsBoxedImage i → load keys (sealed_image key number (flags_with i.keep) i.code i.body) ≡ Ok i
 sealed_loads law keys number key i found h =
     let flags = flags_with i.keep in
@@ -199,5 +216,12 @@ pub first_sealed_loads : DecodeUndoesEncode → (keys : Keys) (i : Image) → Is
 first_sealed_loads law keys i h =
     rw (first_passes keys.first i h)
     (loads_by_key law keys.first (first_head i.code i.body) (plain_image i.code i.body)
-    (record { raw = record { code_len = h.raw.code_len; body_len = h.raw.body_len; code_fits = h.raw.code_fits }; boxed = h.boxed })
+    (record {
+      raw = record {
+        code_len = h.raw.code_len;
+        body_len = h.raw.body_len;
+        code_fits = h.raw.code_fits;
+      };
+      boxed = h.boxed;
+    })
     refl refl (word_is (length i.code) (omega (arith, h.raw.code_len))))

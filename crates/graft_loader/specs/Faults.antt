@@ -1,7 +1,8 @@
 -- What the faults of the loader stand for.
 use Rattle.std.specs.Prelude.{◌≡◌, ℕ, List, [], Option, None, Some, Result, Err}
-use Rattle.kernel_model.specs.Images as model
-use Rattle.kernel_model.specs.Text.{spaced, load_fault_text}
+use Rattle.graft_code.specs.Images as model
+use Rattle.graft_code.specs.Bytes.{spaced}
+use Rattle.graft_code.specs.ImageTexts.{load_fault_text}
 use Rattle.box_verify.specs.declared.VerifyFault.{VerifyFault}
 use Rattle.box_verify.specs.declared.VerifyFault.TheVariants as verify
 use Rattle.gm_image.specs.declared.ImageFault.{ImageFault}

@@ -1,9 +1,9 @@
 -- The laws of sealed images: what is sealed loads.
 use Rattle.std.specs.Prelude.{◌≡◌, ℕ, List, None, Some, Ok}
-use Rattle.kernel_model.specs.declared.Keys.{Keys}
-use Rattle.kernel_model.specs.World.{Image, plain_image}
-use Rattle.kernel_model.specs.Boxed.{box_fault}
-use Rattle.kernel_model.specs.Images.{IsRawImage, first_sealed_image, flags_with, sealed_image, key_of, load, reseal}
+use Rattle.graft_code.specs.declared.Keys.{Keys}
+use Rattle.graft_code.specs.World.{Image, plain_image}
+use Rattle.graft_code.specs.Boxed.{box_fault}
+use Rattle.graft_code.specs.Images.{IsRawImage, first_sealed_image, flags_with, sealed_image, key_of, load, reseal}
 
 -- an image within the limits whose code is boxed
 pub record IsBoxedImage (i : Image) : Type 0 where

@@ -2,12 +2,12 @@
 use Rattle.std.specs.Prelude.{◌≡◌, ◌≤◌, ℕ, suc, ◌==◌, nat_le, true, false, List, [], ◌∷◌, length}
 use Rattle.std.specs.Prelude.{Option, None, Some, Result, Ok, Err}
 use Rattle.std.specs.List.{list_all}
-use Rattle.kernel_model.specs.declared.Instr.{Instr}
-use Rattle.kernel_model.specs.Instructions.{decode, fits}
-use Rattle.kernel_model.specs.World.{Image, same_bytes}
-use Rattle.kernel_model.specs.Boxed.{IsBoxed}
-use Rattle.kernel_model.specs.declared.Keys.{Keys}
-use Rattle.kernel_model.specs.Images.{LoadFault, BadFlags, NoKey, Seal, hmac, key_of, with_first, image_with, verified}
+use Rattle.graft_code.specs.declared.Instr.{Instr}
+use Rattle.graft_code.specs.Instructions.{decode, fits}
+use Rattle.graft_code.specs.World.{Image, same_bytes}
+use Rattle.graft_code.specs.Boxed.{IsBoxed}
+use Rattle.graft_code.specs.declared.Keys.{Keys}
+use Rattle.graft_code.specs.Images.{LoadFault, BadFlags, NoKey, Seal, hmac, key_of, with_first, image_with, verified}
 use Rattle.gm_image.specs.Sealed.{Parts}
 
 -- boxed code of at most 1,024 instructions, each of which can be encoded, and at most 4,096 data

@@ -1,7 +1,7 @@
 -- The table of loaded images as a list of slots.
 use Rattle.std.specs.Prelude.{◌≡◌, ℕ, List, replicate, length, slice_index_or, Option, None}
-use Rattle.kernel_model.specs.World.{Image, ImageTable}
-use Rattle.kernel_model.specs.ImageMask.{TellsImages}
+use Rattle.graft_code.specs.World.{Image, ImageTable}
+use Rattle.graft_code.specs.ImageMask.{TellsImages}
 
 -- 32 free slots
 abbrev pub no_slots : List (Option Image)

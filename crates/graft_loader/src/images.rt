@@ -2,7 +2,7 @@
 
 ghost use Rattle.std.specs.Prelude.{◌≡◌, ℕ, ◌<◌, ◌==◌, ◌||◌, length, map, replicate, is_some, Some};
 ghost use Rattle.std.specs.Prelude.{None, IfOk, IfSome, option_copied, not};
-ghost use Rattle.kernel_model.specs.ImageMask.{TellsImages, has_bit};
+ghost use Rattle.graft_code.specs.ImageMask.{TellsImages, has_bit};
 
 use crate::{Loaded, NoMemory};
 use std::alloc::{AllocError, Global};
@@ -21,7 +21,7 @@ pub struct Images {
 
 impl Model for Images {
     ghost use Rattle.std.specs.Prelude.{List, Option};
-    ghost use Rattle.kernel_model.specs.World.{Image};
+    ghost use Rattle.graft_code.specs.World.{Image};
     ghost use Rattle.graft_loader.specs.Slots.{IsTable};
 
     ghost Value = { List (Option Image) };
@@ -74,7 +74,7 @@ fn with_bit(mask: u32, k: u32) -> u32
 
 impl Images {
     ghost use Rattle.std.specs.Prelude.{slice_set};
-    ghost use Rattle.kernel_model.specs.Objects.{at};
+    ghost use Rattle.graft_code.specs.Objects.{at};
     ghost use Rattle.graft_loader.specs.Loading.{IsLoaded};
     ghost use Rattle.graft_loader.specs.Slots.{no_slots, no_images, table_of};
 

@@ -5,9 +5,9 @@
 ghost use Rattle.std.specs.Prelude.{◌≡◌, ◌≤◌, ◌-◌, ◌++◌, [], ◌∷◌, length, true, take, Some, Ok};
 ghost use Rattle.std.specs.Prelude.{IfOk, IfErr, OnOk, option_copied};
 ghost use Rattle.std.specs.List.{list_all};
-ghost use Rattle.kernel_model.specs.Instructions.{fits};
-ghost use Rattle.kernel_model.specs.Boxed.{IsBoxed, box_fault};
-ghost use Rattle.kernel_model.specs.Images as spec;
+ghost use Rattle.graft_code.specs.Instructions.{fits};
+ghost use Rattle.graft_code.specs.Boxed.{IsBoxed, box_fault};
+ghost use Rattle.graft_code.specs.Images as spec;
 ghost use Rattle.graft_loader.specs.Faults.{Refuses, of_image, of_verifier};
 ghost use Rattle.gm_image.specs.Sealed as image;
 ghost use Rattle.graft_loader.specs.Loading.{IsLoaded, decoded_words, loaded, sealed_by, unsealed};
@@ -21,14 +21,16 @@ use thiserror::Error;
 
 mod codes;
 mod images;
+mod keys;
 pub mod laws;
 mod mac;
 mod sealing;
 
 pub use codes::FaultCode;
 pub use gm_isa::{Instr, Op};
+pub use graft_code::{Keys, NoMemory};
 pub use images::Images;
-pub use kernel_model::{Keys, NoMemory};
+pub use keys::read_keys;
 pub use mac::hmac;
 use mac::is_same;
 use sealing::flags_with;
@@ -91,7 +93,7 @@ pub struct Loaded {
 }
 
 impl Model for Loaded {
-    ghost use Rattle.kernel_model.specs.World.{Image};
+    ghost use Rattle.graft_code.specs.World.{Image};
     ghost use Rattle.graft_loader.specs.Loading.{IsLoaded};
 
     ghost Value = { Image };

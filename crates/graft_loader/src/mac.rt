@@ -1,8 +1,8 @@
 //! HMAC with SHA-256 (RFC 2104, FIPS 180-4), and comparing two codes.
 
 ghost use Rattle.std.specs.Prelude.{◌≡◌, ◌≤◌, ◌-◌, ◌++◌, length, map, replicate, bit_xor};
-ghost use Rattle.kernel_model.specs.World.{same_bytes};
-ghost use Rattle.kernel_model.specs.Images as spec;
+ghost use Rattle.graft_code.specs.World.{same_bytes};
+ghost use Rattle.graft_code.specs.Images as spec;
 
 use sha2::{Digest, Sha256};
 

@@ -2,28 +2,20 @@
 
 ghost use Rattle.std.specs.Prelude.{◌≡◌, ◌≤◌, ◌++◌, length, true, codes, OnOk, IfOk};
 ghost use Rattle.std.specs.List.{list_all};
-ghost use Rattle.kernel_model.specs.Instructions.{fits};
-ghost use Rattle.kernel_model.specs.Bytes.{word_bytes};
-ghost use Rattle.kernel_model.specs.Images as spec;
+ghost use Rattle.graft_code.specs.Instructions.{fits};
+ghost use Rattle.graft_code.specs.Bytes.{word_bytes};
+ghost use Rattle.graft_code.specs.Images as spec;
 
 use crate::mac::hmac;
 use gm_isa::{Instr, encode};
-use kernel_model::{Keys, NoMemory};
+use graft_code::{Keys, NoMemory};
 use std::alloc::Global;
+use text_words::append;
 
 const MAGIC: &[u8; 4] = b"VGR1";
 
 /// The version of the sealed images that are written.
 const VERSION: u32 = 2;
-
-fn append(out: &mut Vec<u8>, bytes: &[u8]) -> Result<(), NoMemory>
-    ensures { OnOk result (out.new.items ≡ out.old.items ++ bytes.now) }
-{
-    match out.extend_from_slice(bytes) {
-        Ok(()) => Ok(()),
-        Err(_) => Err(NoMemory),
-    }
-}
 
 /// Appends the four bytes of a number.
 fn append_word(out: &mut Vec<u8>, n: u32) -> Result<(), NoMemory>

@@ -10,7 +10,8 @@ use Rattle.kernel_model.specs.Access.{param_top}
 use Rattle.kernel_model.specs.Policies.{least, or_zero, process_in, ahead_count}
 use Rattle.graft_points.specs.declared.ask.Ask.{Ask}
 use Rattle.graft_points.specs.declared.ask.Ask.TheVariants.{Ahead, Victim, Next}
-use Rattle.graft_points.specs.Views.{PolicyView, kind_of_code, number_of_code, top_of_code, as_chosen, asked_kind, answer_by, answer_of, frame_in}
+use Rattle.graft_points.specs.Views.{PolicyView, kind_of_code, number_of_code, top_of_code}
+use Rattle.graft_points.specs.Views.{as_chosen, asked_kind, answer_by, answer_of, frame_in}
 use Rattle.graft_points.specs.Shelf.{IsShelf, code_of, view_at, is_policy, param_on, pol_of}
 
 pub code_below : (kind c : ℕ) → kind < 3 → c < policy_count kind → code_of kind c < 7
@@ -54,6 +55,9 @@ pub chosen_answers : (views : List PolicyView) (choice : List ℕ) (kind : ℕ) 
 chosen_answers views choice kind ask shelf h i asked =
     let c = slice_index choice kind in
     let here = (shelf.each (code_of kind c) (code_below kind c h i)).code in
-    let number : number_of_code (view_at views (code_of kind c)).code ≡ c = ap number_of_code here ∙ number_of_its_code kind c h i in
-    let param : param_on views kind c ≡ slice_index (view_at views (code_of kind c)).params 0 = rw (is_its_policy kind c h i) refl in
-    answers_alike (as_chosen (view_at views (code_of kind c))) (pol_of views choice kind) ask number (rw asked i) (sym param)
+    let number : number_of_code (view_at views (code_of kind c)).code ≡ c = ap number_of_code here
+    ∙ number_of_its_code kind c h i in
+    let param : param_on views kind c ≡ slice_index (view_at views (code_of kind c)).params 0 =
+    rw (is_its_policy kind c h i) refl in
+    answers_alike (as_chosen (view_at views (code_of kind c))) (pol_of views choice kind) ask number
+    (rw asked i) (sym param)

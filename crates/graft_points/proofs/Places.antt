@@ -1,51 +1,31 @@
 -- The policies of a shelf by place, where the shelf is a list of boxes that are seen as policies.
-use Rattle.std.proofs.Common.{◌≡◌, ℕ, ◌<◌, IsTrue, nat_eq, Option, Some, None, List, [], ◌∷◌, length, refl, slice_index, map, slice_index_or, slice_set, sym, ◌∙◌, ap, arith}
+use Rattle.std.proofs.Common.{◌≡◌, ℕ, ◌<◌, IsTrue, nat_eq, Option, Some, None, List, [], ◌∷◌}
+use Rattle.std.proofs.Common.{length, refl, slice_index, map, slice_index_or, slice_set, sym, ◌∙◌}
+use Rattle.std.proofs.Common.{ap, arith}
 use Rattle.std.proofs.lemmas.List.{get_or-map, map-set, ext_get_or}
 use Rattle.std.proofs.lemmas.Bool.Decides.{nat_tests}
 use Rattle.graft_points.specs.Views.{PolicyView}
 use Rattle.graft_points.specs.Shelf.{no_policy, view_at, retuned, shelf_with, params_of}
 
 -- the policy of the box at a place
-pub view_at_map : {B : Type 0} (f : B → PolicyView) (xs : List B) (i : ℕ) (d : B) → i < length xs → d ≡ slice_index_or xs i d →
+pub view_at_map : {B : Type 0} (f : B → PolicyView) (xs : List B) (i : ℕ) (d : B) → i < length xs →
+    d ≡ slice_index_or xs i d →
     view_at (map f xs) i ≡ f d
 view_at_map f xs i d h e = get_or-map f xs i d no_policy h ∙ ap f (sym e)
 
 -- the shelf where a box was changed
-pub shelf_with_map : {B : Type 0} (f : B → PolicyView) (xs : List B) (i x : ℕ) (d e : B) → i < length xs → d ≡ slice_index_or xs i d →
+pub shelf_with_map : {B : Type 0} (f : B → PolicyView) (xs : List B) (i x : ℕ) (d e : B) →
+    i < length xs → d ≡ slice_index_or xs i d →
     f e ≡ retuned x (f d) → map f (slice_set xs i e) ≡ shelf_with i x (map f xs)
 shelf_with_map f xs i x d e h is new =
     map-set f xs i e ∙ ap (λ v. slice_set (map f xs) i v) (new ∙ ap (retuned x) (sym (view_at_map f xs i d h is)))
 
 -- two shelves with the same policy at each place are one
-pub alike_everywhere : (xs ys : List PolicyView) → length xs ≡ length ys → ((k : ℕ) → k < length xs → view_at xs k ≡ view_at ys k) → xs ≡ ys
+pub alike_everywhere : (xs ys : List PolicyView) → length xs ≡ length ys →
+    ((k : ℕ) → k < length xs → view_at xs k ≡ view_at ys k) → xs ≡ ys
 alike_everywhere xs ys long each = ext_get_or no_policy xs ys long each
 
 pub alike_at : (xs ys : List PolicyView) (i : ℕ) → xs ≡ ys → view_at xs i ≡ view_at ys i
 alike_at xs ys i e = ap (λ vs. view_at vs i) e
 
 -- ---- parameters by their number
-
-none_by_length : (ps : List ℕ) → length ps ≡ 0 → ps ≡ []
-none_by_length [] h = refl
-none_by_length (p ∷ ps) h = absurd (omega arith)
-
-one_by_length : (ps : List ℕ) (x : ℕ) → length ps ≡ 1 → slice_index ps 0 ≡ x → ps ≡ x ∷ []
-one_by_length [] x h e = absurd (omega arith)
-one_by_length (p ∷ []) x h e = ap (λ n. n ∷ []) e
-one_by_length (p ∷ q ∷ ps) x h e = absurd (omega arith)
-
--- there is no parameter exactly where there are 0
-pub none_exactly : (ps : List ℕ) (n : ℕ) (param : Option ℕ) → n ≡ length ps → param ≡ None →
-    (IsTrue (nat_eq n 0) → ps ≡ params_of param) × (ps ≡ params_of param → IsTrue (nat_eq n 0))
-none_exactly ps n param e is =
-    let forth : IsTrue (nat_eq n 0) → ps ≡ [] = λ t. none_by_length ps (let z : n ≡ 0 = grind (arith, nat_tests) in omega arith) in
-    let back : ps ≡ [] → IsTrue (nat_eq n 0) = λ none. let z : n ≡ 0 = e ∙ ap length none in grind (arith, nat_tests) in
-    rw is (forth, back)
-
--- there is this one parameter exactly where the one that there is is it
-pub one_exactly : (ps : List ℕ) (n m x : ℕ) (param : Option ℕ) → n ≡ length ps → n ≡ 1 → m ≡ slice_index ps 0 → param ≡ Some x →
-    (IsTrue (nat_eq m x) → ps ≡ params_of param) × (ps ≡ params_of param → IsTrue (nat_eq m x))
-one_exactly ps n m x param e one first is =
-    let forth : IsTrue (nat_eq m x) → ps ≡ x ∷ [] = λ t. one_by_length ps x (sym e ∙ one) (let z : m ≡ x = grind (arith, nat_tests) in sym first ∙ z) in
-    let back : ps ≡ x ∷ [] → IsTrue (nat_eq m x) = λ same. let z : m ≡ x = first ∙ ap (λ qs. slice_index qs 0) same in grind (arith, nat_tests) in
-    rw is (forth, back)

@@ -1,5 +1,7 @@
 -- The candidates of a list of rows.
-use Rattle.std.proofs.Common.{◌≡◌, ℕ, suc, zero, ◌<◌, Bool, true, false, cond, ◌==◌, nat_lt, List, [], ◌∷◌, length, map, Option, Some, None, option_map, slice_index_or, refl, sym, subst, ◌∙◌, ap, arith}
+use Rattle.std.proofs.Common.{◌≡◌, ℕ, suc, zero, ◌<◌, Bool, true, false, cond, ◌==◌, nat_lt, List}
+use Rattle.std.proofs.Common.{[], ◌∷◌, length, map, Option, Some, None, option_map, slice_index_or}
+use Rattle.std.proofs.Common.{refl, sym, subst, ◌∙◌, ap, arith}
 use Rattle.std.specs.List.{list_any, All}
 use Rattle.std.proofs.lemmas.Bool.Decides.{nat_tests}
 use Rattle.kernel_model.specs.declared.FrameRow.{FrameRow}
@@ -23,25 +25,30 @@ tail_of_all : {A : Type 0} (P : A → Type 0) (x : A) (xs : List A) → All P (x
 tail_of_all P x xs all = λ k d h. all (suc k) d (omega arith)
 
 -- what holds of all holds of the first with the least key
-pub least_has : {A : Type 0} (P : A → Type 0) (key : A → ℕ) (xs : List A) → All P xs → 0 < length xs → Has P (least key xs)
+pub least_has : {A : Type 0} (P : A → Type 0) (key : A → ℕ) (xs : List A) → All P xs →
+    0 < length xs → Has P (least key xs)
 least_has P key [] all h = absurd (omega arith)
 least_has P key (x ∷ []) all h = record { value = x; is = refl; holds = all 0 x (omega arith) }
 least_has {A} P key (x ∷ y ∷ ys) all h =
     let found = least_has P key (y ∷ ys) (tail_of_all P x (y ∷ ys) all) (omega arith) in
     let Q : Option A → Type 0 = λ o. Has P (better key x o) in
-    subst Q (sym found.is) (has_better P x found.value (nat_lt (key found.value) (key x)) (all 0 x (omega arith)) found.holds)
+    subst Q (sym found.is) (has_better P x found.value (nat_lt (key found.value) (key x))
+    (all 0 x (omega arith)) found.holds)
 
 better_of_image : {A B : Type 0} (key : B → ℕ) (f : A → B) (x : A) (o : Option A) →
     better key (f x) (option_map f o) ≡ option_map f (better (λ a. key (f a)) x o)
 better_of_image key f x None = refl
 better_of_image key f x (Some y) =
-    elim (nat_lt (key (f y)) (key (f x))) as (λ b. cond b (Some (f y)) (Some (f x)) ≡ option_map f (cond b (Some y) (Some x)))
+    elim (nat_lt (key (f y)) (key (f x)))
+    as (λ b. cond b (Some (f y)) (Some (f x)) ≡ option_map f (cond b (Some y) (Some x)))
     [ true ↦ refl | false ↦ refl ]
 
 -- the least of images is the image of the least
-pub least_map : {A B : Type 0} (key : B → ℕ) (f : A → B) (xs : List A) → least key (map f xs) ≡ option_map f (least (λ x. key (f x)) xs)
+pub least_map : {A B : Type 0} (key : B → ℕ) (f : A → B) (xs : List A) →
+    least key (map f xs) ≡ option_map f (least (λ x. key (f x)) xs)
 least_map key f [] = refl
-least_map key f (x ∷ xs) = ap (better key (f x)) (least_map key f xs) ∙ better_of_image key f x (least (λ a. key (f a)) xs)
+least_map key f (x ∷ xs) =
+    ap (better key (f x)) (least_map key f xs) ∙ better_of_image key f x (least (λ a. key (f a)) xs)
 
 -- keys that are the same on a list find the same
 pub least_alike : {A : Type 0} (k l : A → ℕ) (xs : List A) → All (λ x. k x ≡ l x) xs → least k xs ≡ least l xs
@@ -63,7 +70,8 @@ victim_among_rows pol c rows marks =
     ∙ ap frame_in (least_alike (λ (r : FrameRow). victim_key pol c r.frame) (row_key pol) rows
     (λ k d h. rw (marks.marked k d h) refl))
 
-any_at : {A : Type 0} (p : A → Bool) (xs : List A) (k : ℕ) (d : A) → k < length xs → p (slice_index_or xs k d) ≡ true → list_any p xs ≡ true
+any_at : {A : Type 0} (p : A → Bool) (xs : List A) (k : ℕ) (d : A) → k < length xs →
+    p (slice_index_or xs k d) ≡ true → list_any p xs ≡ true
 any_at p [] k d h e = absurd (omega arith)
 any_at p (x ∷ xs) zero d h e = rw e refl
 any_at p (x ∷ xs) (suc k) d h e = rw (any_at p xs k d (omega arith) e) (grind (arith, nat_tests))
@@ -73,7 +81,9 @@ same_number n = grind (arith, nat_tests)
 
 -- each of a list stands there by its number
 each_stands : {A : Type 0} (f : A → ℕ) (xs : List A) → All (λ x. list_any (λ y. f y == f x) xs ≡ true) xs
-each_stands f xs = λ k d h. any_at (λ y. f y == f (slice_index_or xs k d)) xs k d h (same_number (f (slice_index_or xs k d)))
+each_stands f xs =
+    λ k d h. any_at (λ y. f y == f (slice_index_or xs k d)) xs k d h
+    (same_number (f (slice_index_or xs k d)))
 
 -- ---- the frame and the process that are named
 
@@ -93,15 +103,18 @@ named_of f key xs h o e n m =
       stands = let P : ℕ → Type 0 = λ k. list_any (λ x. f x == k) xs ≡ true in subst P (sym number) found.holds;
     }
 
-pub victim_named : (pol : PolValue) (rows : List FrameRow) (n : ℕ) → 0 < length rows → n ≡ or_zero (victim_of pol rows) →
+pub victim_named : (pol : PolValue) (rows : List FrameRow) (n : ℕ) → 0 < length rows →
+    n ≡ or_zero (victim_of pol rows) →
     IsNamed (λ (r : FrameRow). r.frame) rows (victim_of pol rows) n
-victim_named pol rows n h m = named_of (λ (r : FrameRow). r.frame) (row_key pol) rows h (least (row_key pol) rows) refl n m
+victim_named pol rows n h m =
+    named_of (λ (r : FrameRow). r.frame) (row_key pol) rows h (least (row_key pol) rows) refl n m
 
 process_in_map : (o : Option QueueRow) → process_in o ≡ option_map (λ (r : QueueRow). r.process) o
 process_in_map None = refl
 process_in_map (Some r) = refl
 
-pub next_named : (pol : PolValue) (rows : List QueueRow) (n : ℕ) → 0 < length rows → n ≡ or_zero (next_process pol rows) →
+pub next_named : (pol : PolValue) (rows : List QueueRow) (n : ℕ) → 0 < length rows →
+    n ≡ or_zero (next_process pol rows) →
     IsNamed (λ (r : QueueRow). r.process) rows (next_process pol rows) n
 next_named pol rows n h m =
     let first = least (turn_key pol) rows in

@@ -1,5 +1,7 @@
 -- A shelf on which one parameter was set.
-use Rattle.std.proofs.Common.{◌≡◌, ◌≢◌, ℕ, zero, suc, ◌<◌, ◌≤◌, Bool, true, false, cond, ◌&&◌, ◌==◌, List, [], ◌∷◌, length, Option, Some, None, option_map, slice_index, slice_set, refl, sym, subst, ◌∙◌, ap, arith}
+use Rattle.std.proofs.Common.{◌≡◌, ◌≢◌, ℕ, zero, suc, ◌<◌, ◌≤◌, Bool, true, false, cond, ◌&&◌}
+use Rattle.std.proofs.Common.{◌==◌, List, [], ◌∷◌, length, Option, Some, None, option_map}
+use Rattle.std.proofs.Common.{slice_index, slice_set, refl, sym, subst, ◌∙◌, ap, arith}
 use Rattle.std.proofs.Math.Path.{fun_ext}
 use Rattle.std.proofs.lemmas.Bool.Decides.{nat_tests}
 use Rattle.std.proofs.lemmas.List.{get_or-set_same, get_or-set_other, length-set}
@@ -10,22 +12,20 @@ use Rattle.kernel_model.specs.Access.{param_top, in_range, with_param}
 use Rattle.kernel_model.specs.Opening.{opening_policy}
 use Rattle.kernel_model.specs.RawRows.{shown_param}
 use Rattle.graft_points.specs.Views.{PolicyView, top_of_code}
-use Rattle.graft_points.specs.Shelf.{IsShelf, IsPolicy, no_policy, code_of, view_at, is_policy, param_on, pol_of, retuned, shelf_with, head_of, stock_views, first_choice}
+use Rattle.graft_points.specs.Shelf.{IsShelf, IsPolicy, no_policy, code_of, view_at, is_policy}
+use Rattle.graft_points.specs.Shelf.{param_on, pol_of, retuned, shelf_with, head_of, stock_views}
+use Rattle.graft_points.specs.Shelf.{first_choice}
 use Rattle.graft_points.proofs.Chosen.{code_below, top_of_its_code, is_its_policy}
 
 -- ---- the policies of a shelf
 
 -- the policy at a place after the parameter of one was set
-pub view_at_same : (i x : ℕ) (views : List PolicyView) → i < length views → view_at (shelf_with i x views) i ≡ retuned x (view_at views i)
+pub view_at_same : (i x : ℕ) (views : List PolicyView) → i < length views →
+    view_at (shelf_with i x views) i ≡ retuned x (view_at views i)
 view_at_same i x views h = get_or-set_same views i (retuned x (view_at views i)) no_policy h
 
 pub view_at_other : (i j x : ℕ) (views : List PolicyView) → j ≢ i → view_at (shelf_with i x views) j ≡ view_at views j
 view_at_other i j x views h = get_or-set_other views i j (retuned x (view_at views i)) no_policy h
-
--- what holds of a place and of all others holds of each
-place_or_other : (P : ℕ → Type 0) (i j : ℕ) (b : Bool) → (j == i) ≡ b → P i → (j ≢ i → P j) → P j
-place_or_other P i j true e here other = let same : i ≡ j = grind (arith, nat_tests) in subst P same here
-place_or_other P i j false e here other = let apart : j ≢ i = grind (arith, nat_tests) in other apart
 
 counted : (top : Option ℕ) (n x : ℕ) → n ≡ elim top [ None ↦ 0 | Some t ↦ 1 ] → in_range top 0 x ≡ true → 0 < n
 counted None n x e h = cc
@@ -34,10 +34,6 @@ counted (Some t) n x e h = omega arith
 -- a policy that takes a value has a parameter
 pub has_param : (i x : ℕ) (v : PolicyView) → IsPolicy i v → in_range (top_of_code i) 0 x ≡ true → 0 < length v.params
 has_param i x v p h = counted (top_of_code i) (length v.params) x p.count h
-
-fits_range : (top : Option ℕ) (x : ℕ) → in_range top 0 x ≡ true → ParamFits top x
-fits_range None x h = tt
-fits_range (Some t) x h = grind (arith, nat_tests)
 
 -- below the highest value, if there is one
 within : (top : Option ℕ) (x : ℕ) → ParamFits top x → (t : ℕ) → top ≡ Some t → x ≤ t
@@ -48,39 +44,10 @@ set_first : (x : ℕ) (ps : List ℕ) → 0 < length ps → slice_index (slice_s
 set_first x [] h = absurd (omega arith)
 set_first x (p ∷ ps) h = refl
 
-length_set_first : (x : ℕ) (ps : List ℕ) → length (slice_set ps 0 x) ≡ length ps
-length_set_first x [] = refl
-length_set_first x (p ∷ ps) = refl
-
--- a policy stays what it is when its parameter is set
-retuned_is_policy : (i x : ℕ) (v : PolicyView) → IsPolicy i v → in_range (top_of_code i) 0 x ≡ true → IsPolicy i (retuned x v)
-retuned_is_policy i x v p h =
-    record {
-      code = p.code;
-      count = length_set_first x v.params ∙ p.count;
-      range = let F : ℕ → Type 0 = λ n. ParamFits (top_of_code i) n in
-          within (top_of_code i) _ (subst F (sym (set_first x v.params (has_param i x v p h))) (fits_range (top_of_code i) x h));
-    }
-
--- a shelf stays one when a parameter is set
-pub shelf_stays : (i x : ℕ) (views : List PolicyView) → IsShelf views → i < 7 → in_range (top_of_code i) 0 x ≡ true → IsShelf (shelf_with i x views)
-shelf_stays i x views s h r =
-    let inside : i < length views = omega (arith, s.seven) in
-    record {
-      seven = length-set views i (retuned x (view_at views i)) ∙ s.seven;
-      each = λ j k.
-          let P : ℕ → Type 0 = λ n. n < 7 → IsPolicy n (view_at (shelf_with i x views) n) in
-          place_or_other P i j (j == i) refl
-          (λ _. let Q : PolicyView → Type 0 = λ v. IsPolicy i v in
-          subst Q (sym (view_at_same i x views inside)) (retuned_is_policy i x (view_at views i) (s.each i h) r))
-          (λ apart k. let Q : PolicyView → Type 0 = λ v. IsPolicy j v in
-          subst Q (sym (view_at_other i j x views apart)) (s.each j k))
-          k;
-    }
-
 -- ---- the value of each kind
 
-codes_apart : (kind c k j : ℕ) → kind < 3 → c < policy_count kind → is_policy k j ≡ true → code_of k j ≡ code_of kind c → (k ≡ kind) × (j ≡ c)
+codes_apart : (kind c k j : ℕ) → kind < 3 → c < policy_count kind → is_policy k j ≡ true →
+    code_of k j ≡ code_of kind c → (k ≡ kind) × (j ≡ c)
 codes_apart kind c k j h i e same = grind (arith, nat_tests)
 
 -- the parameter of policy j of kind k, where that of policy c of a kind was set to x
@@ -88,7 +55,8 @@ abbrev pub ParamAfter : (views : List PolicyView) (kind c x k j : ℕ) → Type 
 ParamAfter views kind c x k j =
     param_on (shelf_with (code_of kind c) x views) k j ≡ cond (k == kind && j == c) x (param_on views k j)
 
-param_elsewhere : (views : List PolicyView) (kind c x k j : ℕ) → kind < 3 → c < policy_count kind → is_policy k j ≡ true →
+param_elsewhere : (views : List PolicyView) (kind c x k j : ℕ) → kind < 3 → c < policy_count kind →
+    is_policy k j ≡ true →
     (k == kind && j == c) ≡ false → ParamAfter views kind c x k j
 param_elsewhere views kind c x k j h i e q =
     let apart : code_of k j ≢ code_of kind c = λ same.
@@ -107,7 +75,8 @@ param_here views kind c x s h i r =
     ∙ set_first x v.params (has_param (code_of kind c) x v (s.each (code_of kind c) below) r))
 
 param_after : (views : List PolicyView) (kind c x k j : ℕ) → IsShelf views → kind < 3 → c < policy_count kind →
-    in_range (top_of_code (code_of kind c)) 0 x ≡ true → (b : Bool) → (k == kind && j == c) ≡ b → (d : Bool) → is_policy k j ≡ d →
+    in_range (top_of_code (code_of kind c)) 0 x ≡ true → (b : Bool) → (k == kind && j == c) ≡ b →
+    (d : Bool) → is_policy k j ≡ d →
     ParamAfter views kind c x k j
 param_after views kind c x k j s h i r false q false e = rw (e, q) refl
 param_after views kind c x k j s h i r false q true e = param_elsewhere views kind c x k j h i e q
@@ -124,14 +93,16 @@ same_number n = grind (arith, nat_tests)
 
 -- the values of the kinds, where the parameter of the chosen policy of one was set
 value_after : (views : List PolicyView) (choice : List ℕ) (kind x k : ℕ) → IsShelf views → kind < 3 →
-    slice_index choice kind < policy_count kind → in_range (top_of_code (code_of kind (slice_index choice kind))) 0 x ≡ true →
+    slice_index choice kind < policy_count kind →
+    in_range (top_of_code (code_of kind (slice_index choice kind))) 0 x ≡ true →
     (b : Bool) → (k == kind) ≡ b →
     pol_of (shelf_with (code_of kind (slice_index choice kind)) x views) choice k
     ≡ cond b (with_param x (pol_of views choice kind)) (pol_of views choice k)
 value_after views choice kind x k s h i r true e =
     let same : kind ≡ k = grind (arith, nat_tests) in
     let c = slice_index choice kind in
-    let P : ℕ → Type 0 = λ n. pol_of (shelf_with (code_of kind c) x views) choice n ≡ with_param x (pol_of views choice kind) in
+    let P : ℕ → Type 0 = λ n. pol_of (shelf_with (code_of kind c) x views) choice n
+    ≡ with_param x (pol_of views choice kind) in
     let params : param_on (shelf_with (code_of kind c) x views) kind ≡ at c x (param_on views kind) =
     fun_ext (λ j. param_after views kind c x kind j s h i r (kind == kind && j == c) refl (is_policy kind j) refl
     ∙ rw (same_number kind) refl) in
@@ -164,12 +135,6 @@ values_after new old choice kind x t =
     ap (λ views. pol_of views choice) t.views
     ∙ fun_ext (λ k. value_after old choice kind x k t.shelf t.kind_is t.number r (k == kind) refl)
 
-pub stays_after : (new old : List PolicyView) (choice : List ℕ) (kind x : ℕ) → IsTuned new old choice kind x → IsShelf new
-stays_after new old choice kind x t =
-    let c = slice_index choice kind in
-    let r = in_its_range kind c x t.kind_is t.number t.range in
-    subst IsShelf (sym t.views) (shelf_stays (code_of kind c) x old t.shelf (code_below kind c t.kind_is t.number) r)
-
 -- ---- the parameter that is shown
 
 shown_of : (ps : List ℕ) (top : Option ℕ) → length ps ≡ elim top [ None ↦ 0 | Some t ↦ 1 ] →
@@ -181,13 +146,15 @@ shown_of (p ∷ ps) (Some t) e = refl
 
 pub param_shown : (views : List PolicyView) (choice : List ℕ) (kind : ℕ) → IsShelf views → kind < 3 →
     slice_index choice kind < policy_count kind →
-    head_of (view_at views (code_of kind (slice_index choice kind))).params ≡ shown_param kind (pol_of views choice kind)
+    head_of (view_at views (code_of kind (slice_index choice kind))).params
+    ≡ shown_param kind (pol_of views choice kind)
 param_shown views choice kind s h i =
     let c = slice_index choice kind in
     let v = view_at views (code_of kind c) in
     rw (is_its_policy kind c h i)
     (shown_of v.params (param_top kind c)
-    ((s.each (code_of kind c) (code_below kind c h i)).count ∙ ap (λ top. elim top [ None ↦ 0 | Some t ↦ 1 ]) (top_of_its_code kind c h i)))
+    ((s.each (code_of kind c) (code_below kind c h i)).count
+    ∙ ap (λ top. elim top [ None ↦ 0 | Some t ↦ 1 ]) (top_of_its_code kind c h i)))
 
 -- ---- the shelf at boot
 
@@ -196,9 +163,12 @@ stock_policy zero h = record { code = refl; count = refl; range = within (top_of
 stock_policy (suc zero) h = record { code = refl; count = refl; range = within (top_of_code 1) _ (omega arith) }
 stock_policy (suc (suc zero)) h = record { code = refl; count = refl; range = within (top_of_code 2) _ (omega arith) }
 stock_policy (suc (suc (suc zero))) h = record { code = refl; count = refl; range = within (top_of_code 3) _ (tt) }
-stock_policy (suc (suc (suc (suc zero)))) h = record { code = refl; count = refl; range = within (top_of_code 4) _ (omega arith) }
-stock_policy (suc (suc (suc (suc (suc zero))))) h = record { code = refl; count = refl; range = within (top_of_code 5) _ (tt) }
-stock_policy (suc (suc (suc (suc (suc (suc zero)))))) h = record { code = refl; count = refl; range = within (top_of_code 6) _ (omega arith) }
+stock_policy (suc (suc (suc (suc zero)))) h =
+    record { code = refl; count = refl; range = within (top_of_code 4) _ (omega arith) }
+stock_policy (suc (suc (suc (suc (suc zero))))) h =
+    record { code = refl; count = refl; range = within (top_of_code 5) _ (tt) }
+stock_policy (suc (suc (suc (suc (suc (suc zero)))))) h =
+    record { code = refl; count = refl; range = within (top_of_code 6) _ (omega arith) }
 stock_policy (suc (suc (suc (suc (suc (suc (suc i))))))) h = absurd (omega arith)
 
 stock_shelf : IsShelf stock_views

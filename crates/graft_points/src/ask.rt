@@ -7,7 +7,11 @@ use kernel_model::{FrameRow, QueueRow};
 pub enum Ask<'a> {
     /// Reading ahead: whether the last read followed the one before, the file's window (0 to 8),
     /// and how many blocks of the file are left.
-    Ahead(bool, u32, u32),
+    Ahead {
+        sequential: bool,
+        window: u32,
+        left: u32,
+    },
     /// Eviction: frames in use, oldest first.
     Victim(&'a [FrameRow]),
     /// Scheduling: the queue, front first.

@@ -9,8 +9,6 @@ mod least;
 mod policy;
 mod shelf;
 mod stock;
-#[cfg(test)]
-mod tests;
 
 pub use ask::Ask;
 pub use checks::{valid_ahead, valid_next, valid_victim};

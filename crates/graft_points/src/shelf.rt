@@ -243,7 +243,11 @@ impl<B: Policy> Shelf<B> {
         ensures { result ≡ ahead_in (pol_of self.now choice.now 0) file.now blocks }
     {
         let start = file.next.min(blocks);
-        let ask = Ask::Ahead(file.seq, u32::from(file.window), blocks - start);
+        let ask = Ask::Ahead {
+            sequential: file.seq,
+            window: u32::from(file.window),
+            left: blocks - start,
+        };
         (start, self.ask_chosen(choice, 0, &ask))
     }
 

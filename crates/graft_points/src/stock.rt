@@ -85,7 +85,11 @@ impl Policy for RaSeq {
 
     fn answer(&self, ask: &Ask) -> u32 {
         match *ask {
-            Ask::Ahead(true, window, left) => self.blocks.min(window).min(left),
+            Ask::Ahead {
+                sequential: true,
+                window,
+                left,
+            } => self.blocks.min(window).min(left),
             _ => 0,
         }
     }
@@ -130,7 +134,7 @@ impl Policy for RaNext {
 
     fn answer(&self, ask: &Ask) -> u32 {
         match *ask {
-            Ask::Ahead(_, window, left) => self.blocks.min(window).min(left),
+            Ask::Ahead { window, left, .. } => self.blocks.min(window).min(left),
             _ => 0,
         }
     }

@@ -4,26 +4,26 @@ use Rattle.std.proofs.Common.{Ok, Err, Some, refl, ap, sym, subst, ◌∙◌, ar
 use Rattle.std.specs.Prelude.{slice_get}
 use Rattle.std.proofs.lemmas.List.{append-nil}
 use Rattle.std.proofs.lemmas.Bool.Decides.{nat_tests}
-use Rattle.kernel_model.specs.declared.language.LangKind.{LangKind}
-use Rattle.kernel_model.specs.declared.language.LangKind.TheVariants.{NoProgram}
-use Rattle.kernel_model.specs.declared.language.Operator.{Operator}
-use Rattle.kernel_model.specs.declared.language.Operator.TheVariants.{Plus}
-use Rattle.kernel_model.specs.declared.language.Symbol.{Symbol}
-use Rattle.kernel_model.specs.declared.language.Symbol.TheVariants.{If, Else, While, Trap, Answer, Assign, Semicolon}
-use Rattle.kernel_model.specs.declared.language.Symbol.TheVariants.{OpenBrace, CloseBrace, OpenParenthesis}
-use Rattle.kernel_model.specs.declared.language.Symbol.TheVariants.{CloseParenthesis, Comma}
-use Rattle.kernel_model.specs.declared.language.Goal.{Goal}
-use Rattle.kernel_model.specs.declared.language.Goal.TheVariants.{Statements, Braces, Operand, InfixOperator, RightSide}
-use Rattle.kernel_model.specs.declared.language.Goal.TheVariants.{FirstArgument, NextArgument, AfterArgument}
-use Rattle.kernel_model.specs.declared.language.Goal.TheVariants.{EndOfAssignment, Constant, Awaits}
-use Rattle.kernel_model.specs.LanguageTokens.{Token, Number, Variable, Callable, Infix, Mark, symbols, symbol_number}
-use Rattle.kernel_model.specs.LanguageTokens.{same_symbol}
-use Rattle.kernel_model.specs.LanguageGrammar.{Expression, Literal, Named, Binary, Program, Done, Assigns, Calls, When}
-use Rattle.kernel_model.specs.LanguageGrammar.{Either, Loops, Traps, Answers, spelled_expression, spelled_more}
-use Rattle.kernel_model.specs.LanguageGrammar.{spelled_arguments, spelled_statements, spelled, follow_mark}
-use Rattle.kernel_model.specs.LanguageGrammar.{follow_statement, follow_operand, follow_right_side, follow_first}
-use Rattle.kernel_model.specs.LanguageGrammar.{follow_argument, follow_infix, follow_constant, follow_awaited}
-use Rattle.kernel_model.specs.LanguageGrammar.{follow_goal, follow, follow_all, first_goals, is_met}
+use Rattle.graft_texts.specs.declared.language.LangKind.{LangKind}
+use Rattle.graft_texts.specs.declared.language.LangKind.TheVariants.{NoProgram}
+use Rattle.graft_texts.specs.declared.language.Operator.{Operator}
+use Rattle.graft_texts.specs.declared.language.Operator.TheVariants.{Plus}
+use Rattle.graft_texts.specs.declared.language.Symbol.{Symbol}
+use Rattle.graft_texts.specs.declared.language.Symbol.TheVariants.{If, Else, While, Trap, Answer, Assign, Semicolon}
+use Rattle.graft_texts.specs.declared.language.Symbol.TheVariants.{OpenBrace, CloseBrace, OpenParenthesis}
+use Rattle.graft_texts.specs.declared.language.Symbol.TheVariants.{CloseParenthesis, Comma}
+use Rattle.graft_texts.specs.declared.language.Goal.{Goal}
+use Rattle.graft_texts.specs.declared.language.Goal.TheVariants.{Statements, Braces, Operand, InfixOperator, RightSide}
+use Rattle.graft_texts.specs.declared.language.Goal.TheVariants.{FirstArgument, NextArgument, AfterArgument}
+use Rattle.graft_texts.specs.declared.language.Goal.TheVariants.{EndOfAssignment, Constant, Awaits}
+use Rattle.graft_texts.specs.LanguageTokens.{Token, Number, Variable, Callable, Infix, Mark, symbols, symbol_number}
+use Rattle.graft_texts.specs.LanguageTokens.{same_symbol}
+use Rattle.graft_texts.specs.LanguageGrammar.{Expression, Literal, Named, Binary, Program, Done, Assigns, Calls, When}
+use Rattle.graft_texts.specs.LanguageGrammar.{Either, Loops, Traps, Answers, spelled_expression, spelled_more}
+use Rattle.graft_texts.specs.LanguageGrammar.{spelled_arguments, spelled_statements, spelled, follow_mark}
+use Rattle.graft_texts.specs.LanguageGrammar.{follow_statement, follow_operand, follow_right_side, follow_first}
+use Rattle.graft_texts.specs.LanguageGrammar.{follow_argument, follow_infix, follow_constant, follow_awaited}
+use Rattle.graft_texts.specs.LanguageGrammar.{follow_goal, follow, follow_all, first_goals, is_met}
 use Rattle.graft_syntax.specs.Laws.{IsMet, SpellingsAreRead, ReadTokensAreSpelled, ReadTokensGoOn}
 use Rattle.graft_syntax.specs.Laws.{RefusedTokensDontGoOn}
 
@@ -72,7 +72,8 @@ Plain b F ts = (p : Program) × (us : List Token) × (ts ≡ spelled_statements 
 -- `else` and its block, statements, and their end
 abbrev Otherwise : (in_block : Bool) → (List Token → Type 0) → List Token → Type 0
 Otherwise b F ts =
-    (q : Program) × (us : List Token) × (ts ≡ Mark Else ∷ Mark OpenBrace ∷ spelled_statements q (Mark CloseBrace ∷ us)) × Plain b F us
+    (q : Program) × (us : List Token) × (ts ≡ Mark Else ∷ Mark OpenBrace ∷ spelled_statements q
+    (Mark CloseBrace ∷ us)) × Plain b F us
 
 abbrev FillsStatements : (in_block after_if : Bool) → (List Token → Type 0) → List Token → Type 0
 FillsStatements b false F ts = Plain b F ts
@@ -83,17 +84,21 @@ FillsOperand F ts = (e : Expression) × (us : List Token) × (ts ≡ spelled_exp
 
 abbrev FillsCall : (List Token → Type 0) → List Token → Type 0
 FillsCall F ts =
-    (id : ℕ) × (es : List Expression) × (us : List Token) × (ts ≡ Callable id ∷ Mark OpenParenthesis ∷ spelled_arguments es us) × F us
+    (id : ℕ) × (es : List Expression) × (us : List Token)
+    × (ts ≡ Callable id ∷ Mark OpenParenthesis ∷ spelled_arguments es us) × F us
 
 abbrev FillsGoal : Goal → (List Token → Type 0) → List Token → Type 0
 FillsGoal (Statements b f) F ts = FillsStatements b f F ts
-FillsGoal Braces F ts = (p : Program) × (us : List Token) × (ts ≡ Mark OpenBrace ∷ spelled_statements p (Mark CloseBrace ∷ us)) × F us
+FillsGoal Braces F ts =
+    (p : Program) × (us : List Token)
+    × (ts ≡ Mark OpenBrace ∷ spelled_statements p (Mark CloseBrace ∷ us)) × F us
 FillsGoal Operand F ts = FillsOperand F ts
 FillsGoal InfixOperator F ts = (op : Operator) × (us : List Token) × (ts ≡ Infix op ∷ us) × F us
 FillsGoal RightSide F ts = FillsOperand F ts ⊎ FillsCall F ts
 FillsGoal (FirstArgument left) F ts = (es : List Expression) × (us : List Token) × (ts ≡ spelled_arguments es us) × F us
 FillsGoal (NextArgument left) F ts =
-    (e : Expression) × (es : List Expression) × (us : List Token) × (ts ≡ spelled_expression e (spelled_more es us)) × F us
+    (e : Expression) × (es : List Expression) × (us : List Token)
+    × (ts ≡ spelled_expression e (spelled_more es us)) × F us
 FillsGoal (AfterArgument left) F ts = (es : List Expression) × (us : List Token) × (ts ≡ spelled_more es us) × F us
 FillsGoal EndOfAssignment F ts = (us : List Token) × (ts ≡ Mark Semicolon ∷ us) × F us
 FillsGoal Constant F ts = (n : ℕ) × (us : List Token) × (ts ≡ Number n ∷ us) × F us
@@ -111,23 +116,27 @@ Sound (Ok next) goals us ts = Fills next us → Fills goals ts
 Sound (Err kind) goals us ts = Unit {0}
 
 -- statements fill their goal, whether an `if` has just ended or not
-plainly : (b f : Bool) (gs : List Goal) (ts : List Token) → Plain b (λ us. Fills gs us) ts → Fills (Statements b f ∷ gs) ts
+plainly : (b f : Bool) (gs : List Goal) (ts : List Token) → Plain b (λ us. Fills gs us) ts →
+    Fills (Statements b f ∷ gs) ts
 plainly b false gs ts h = h
 plainly b true gs ts h = inl h
 
-sound_mark : (b f : Bool) (gs : List Goal) (s : Symbol) (us : List Token) → Sound (follow_mark b f gs s) (Statements b f ∷ gs) us (Mark s ∷ us)
+sound_mark : (b f : Bool) (gs : List Goal) (s : Symbol) (us : List Token) →
+    Sound (follow_mark b f gs s) (Statements b f ∷ gs) us (Mark s ∷ us)
 sound_mark b f gs If us =
     λ h. elim (h.3.3) [
       | inl k ↦ plainly b f gs (Mark If ∷ us) (
         When h.0 h.3.0 k.0,
         k.1,
-        ap (λ x. Mark If ∷ x) (h.2 ∙ ap (spelled_expression h.0) (h.3.2 ∙ ap (λ x. Mark OpenBrace ∷ spelled_statements h.3.0 (Mark CloseBrace ∷ x)) k.2)),
+        ap (λ x. Mark If ∷ x) (h.2 ∙ ap (spelled_expression h.0) (h.3.2
+            ∙ ap (λ x. Mark OpenBrace ∷ spelled_statements h.3.0 (Mark CloseBrace ∷ x)) k.2)),
         k.3,
       )
       | inr k ↦ plainly b f gs (Mark If ∷ us) (
         Either h.0 h.3.0 k.0 k.3.0,
         k.3.1,
-        ap (λ x. Mark If ∷ x) (h.2 ∙ ap (spelled_expression h.0) (h.3.2 ∙ ap (λ x. Mark OpenBrace ∷ spelled_statements h.3.0 (Mark CloseBrace ∷ x))
+        ap (λ x. Mark If ∷ x) (h.2 ∙ ap (spelled_expression h.0) (h.3.2
+            ∙ ap (λ x. Mark OpenBrace ∷ spelled_statements h.3.0 (Mark CloseBrace ∷ x))
             (k.2 ∙ ap (λ x. Mark Else ∷ Mark OpenBrace ∷ spelled_statements k.0 (Mark CloseBrace ∷ x)) k.3.2))),
         k.3.3,
       )
@@ -139,7 +148,8 @@ sound_mark b f gs While us =
     λ h. let k = h.3.3 in plainly b f gs (Mark While ∷ us) (
       Loops h.0 h.3.0 k.0,
       k.1,
-      ap (λ x. Mark While ∷ x) (h.2 ∙ ap (spelled_expression h.0) (h.3.2 ∙ ap (λ x. Mark OpenBrace ∷ spelled_statements h.3.0 (Mark CloseBrace ∷ x)) k.2)),
+      ap (λ x. Mark While ∷ x) (h.2 ∙ ap (spelled_expression h.0) (h.3.2
+          ∙ ap (λ x. Mark OpenBrace ∷ spelled_statements h.3.0 (Mark CloseBrace ∷ x)) k.2)),
       k.3,
     )
 sound_mark b f gs Trap us =
@@ -162,20 +172,23 @@ sound_mark true f gs CloseBrace us =
 sound_mark false f gs CloseBrace us = tt
 sound_mark b f gs _ us = tt
 
-sound_statement : (b f : Bool) (gs : List Goal) (t : Token) (us : List Token) → Sound (follow_statement b f gs t) (Statements b f ∷ gs) us (t ∷ us)
+sound_statement : (b f : Bool) (gs : List Goal) (t : Token) (us : List Token) →
+    Sound (follow_statement b f gs t) (Statements b f ∷ gs) us (t ∷ us)
 sound_statement b f gs (Variable name) us =
     λ h. let right = h.2 in elim right [
       | inl r ↦ let k = r.3.2 in plainly b f gs (Variable name ∷ us) (
         Assigns name r.0 k.0,
         k.1,
-        ap (λ x. Variable name ∷ x) (h.1 ∙ ap (λ x. Mark Assign ∷ x) (r.2 ∙ ap (spelled_expression r.0) (r.3.1 ∙ ap (λ x. Mark Semicolon ∷ x) k.2))),
+        ap (λ x. Variable name ∷ x) (h.1 ∙ ap (λ x. Mark Assign ∷ x) (r.2
+            ∙ ap (spelled_expression r.0) (r.3.1 ∙ ap (λ x. Mark Semicolon ∷ x) k.2))),
         k.3,
       )
       | inr r ↦ let k = r.4.2 in plainly b f gs (Variable name ∷ us) (
         Calls name r.0 r.1 k.0,
         k.1,
         ap (λ x. Variable name ∷ x) (h.1 ∙ ap (λ x. Mark Assign ∷ x)
-            (r.3 ∙ ap (λ x. Callable r.0 ∷ Mark OpenParenthesis ∷ spelled_arguments r.1 x) (r.4.1 ∙ ap (λ x. Mark Semicolon ∷ x) k.2))),
+            (r.3 ∙ ap (λ x. Callable r.0 ∷ Mark OpenParenthesis ∷ spelled_arguments r.1 x) (r.4.1
+            ∙ ap (λ x. Mark Semicolon ∷ x) k.2))),
         k.3,
       )
     ]
@@ -208,7 +221,8 @@ operand_before goals gs t us onto = by (follow_operand gs t) (sound_operand gs t
     by (Ok next) h = λ k. onto (h k)
     by (Err kind) h = tt
 
-sound_right_side : (gs : List Goal) (t : Token) (us : List Token) → Sound (follow_right_side gs t) (RightSide ∷ gs) us (t ∷ us)
+sound_right_side : (gs : List Goal) (t : Token) (us : List Token) →
+    Sound (follow_right_side gs t) (RightSide ∷ gs) us (t ∷ us)
 sound_right_side gs (Callable id) us =
     λ h. inr (id, h.2.0, h.2.1, ap (λ x. Callable id ∷ x) (h.1 ∙ ap (λ x. Mark OpenParenthesis ∷ x) h.2.2), h.2.3)
 sound_right_side gs (Number n) us = operand_before (RightSide ∷ gs) gs (Number n) us (λ h. inl h)
@@ -229,7 +243,8 @@ first_before left gs t us =
     operand_before (FirstArgument left ∷ gs) (AfterArgument (left - 1) ∷ gs) t us
     (λ h. (h.0 ∷ h.3.0, h.3.1, h.2 ∙ ap (spelled_expression h.0) h.3.2, h.3.3))
 
-sound_first : (left : ℕ) (gs : List Goal) (t : Token) (us : List Token) → Sound (follow_first left gs t) (FirstArgument left ∷ gs) us (t ∷ us)
+sound_first : (left : ℕ) (gs : List Goal) (t : Token) (us : List Token) →
+    Sound (follow_first left gs t) (FirstArgument left ∷ gs) us (t ∷ us)
 sound_first left gs (Mark CloseParenthesis) us = λ h. ([], us, refl, h)
 sound_first left gs (Mark OpenParenthesis) us = first_before left gs (Mark OpenParenthesis) us
 sound_first left gs (Mark _) us = tt
@@ -248,16 +263,19 @@ sound_argument left gs (Variable name) us = tt
 sound_argument left gs (Callable id) us = tt
 sound_argument left gs (Infix op) us = tt
 
-sound_infix : (gs : List Goal) (t : Token) (us : List Token) → Sound (follow_infix gs t) (InfixOperator ∷ gs) us (t ∷ us)
+sound_infix : (gs : List Goal) (t : Token) (us : List Token) →
+    Sound (follow_infix gs t) (InfixOperator ∷ gs) us (t ∷ us)
 sound_infix gs (Infix op) us = λ h. (op, us, refl, h)
 sound_infix gs _ us = tt
 
-sound_constant : (gs : List Goal) (t : Token) (us : List Token) → Sound (follow_constant gs t) (Constant ∷ gs) us (t ∷ us)
+sound_constant : (gs : List Goal) (t : Token) (us : List Token) →
+    Sound (follow_constant gs t) (Constant ∷ gs) us (t ∷ us)
 sound_constant gs (Number n) us = λ h. (n, us, refl, h)
 sound_constant gs _ us = tt
 
 -- a symbol that is awaited, and what is said of it
-sound_awaited : (s : Symbol) (next goals : List Goal) (t : Token) (us : List Token) → (Fills next us → Fills goals (Mark s ∷ us))
+sound_awaited : (s : Symbol) (next goals : List Goal) (t : Token) (us : List Token) →
+    (Fills next us → Fills goals (Mark s ∷ us))
     → Sound (follow_awaited s next t) goals us (t ∷ us)
 sound_awaited s next goals (Mark t) us onto = by (same_symbol s t) (one_symbol s t)
   where
@@ -298,15 +316,18 @@ others_are : (t u : Token) (ts us : List Token) → t ∷ ts ≡ u ∷ us → ts
 others_are t u ts us h = cc
 
 -- a goal that is filled from a token on, where the token is another
-at_token : (g : Goal) (gs : List Goal) (t u : Token) (ts us : List Token) → t ∷ ts ≡ u ∷ us → Complete (follow_goal g gs u) us
+at_token : (g : Goal) (gs : List Goal) (t u : Token) (ts us : List Token) → t ∷ ts ≡ u ∷ us →
+    Complete (follow_goal g gs u) us
     → Complete (follow_goal g gs t) ts
 at_token g gs t u ts us h k =
     subst (λ x. Complete (follow_goal g gs x) ts) (sym (first_is t u ts us h))
     (subst (λ xs. Complete (follow_goal g gs u) xs) (sym (others_are t u ts us h)) k)
 
-complete_plain : (b f : Bool) (gs : List Goal) (t : Token) (us vs : List Token) (p : Program) → t ∷ us ≡ spelled_statements p vs
+complete_plain : (b f : Bool) (gs : List Goal) (t : Token) (us vs : List Token) (p : Program) →
+    t ∷ us ≡ spelled_statements p vs
     → Ending b (λ xs. Fills gs xs) vs → Complete (follow_statement b f gs t) us
-complete_plain true f gs t us vs Done e end = at_token (Statements true f) gs t (Mark CloseBrace) us end.0 (e ∙ end.1) end.2
+complete_plain true f gs t us vs Done e end =
+    at_token (Statements true f) gs t (Mark CloseBrace) us end.0 (e ∙ end.1) end.2
 complete_plain false f gs t us vs Done e end = absurd cc
 complete_plain b f gs t us vs (Assigns name x p) e end =
     at_token (Statements b f) gs t (Variable name) us _ e
@@ -330,13 +351,15 @@ complete_plain b f gs t us vs (Answers x y p) e end =
     at_token (Statements b f) gs t (Mark Answer) us _ e
     (x, _, refl, (_, refl, (y, _, refl, (_, refl, (p, vs, refl, end)))))
 
-complete_statement : (b f : Bool) (gs : List Goal) (t : Token) (us : List Token) → FillsStatements b f (λ xs. Fills gs xs) (t ∷ us)
+complete_statement : (b f : Bool) (gs : List Goal) (t : Token) (us : List Token) →
+    FillsStatements b f (λ xs. Fills gs xs) (t ∷ us)
     → Complete (follow_statement b f gs t) us
 complete_statement b false gs t us h = complete_plain b false gs t us h.1 h.0 h.2 h.3
 complete_statement b true gs t us (inl h) = complete_plain b true gs t us h.1 h.0 h.2 h.3
 complete_statement b true gs t us (inr h) = at_token (Statements b true) gs t (Mark Else) us _ h.2 (h.0, h.1, refl, h.3)
 
-complete_operand : (gs : List Goal) (t : Token) (us vs : List Token) (e : Expression) → t ∷ us ≡ spelled_expression e vs → Fills gs vs
+complete_operand : (gs : List Goal) (t : Token) (us vs : List Token) (e : Expression) →
+    t ∷ us ≡ spelled_expression e vs → Fills gs vs
     → Complete (follow_operand gs t) us
 complete_operand gs t us vs (Literal n) h k = at_token Operand gs t (Number n) us vs h k
 complete_operand gs t us vs (Named name) h k = at_token Operand gs t (Variable name) us vs h k
@@ -344,33 +367,41 @@ complete_operand gs t us vs (Binary a op b) h k =
     at_token Operand gs t (Mark OpenParenthesis) us _ h
     (a, _, refl, (op, _, refl, (b, Mark CloseParenthesis ∷ vs, refl, (vs, refl, k))))
 
-complete_right_side : (gs : List Goal) (t : Token) (us : List Token) → Fills (RightSide ∷ gs) (t ∷ us) → Complete (follow_right_side gs t) us
+complete_right_side : (gs : List Goal) (t : Token) (us : List Token) →
+    Fills (RightSide ∷ gs) (t ∷ us) → Complete (follow_right_side gs t) us
 complete_right_side gs t us (inl (Literal n, vs, e, k)) = at_token RightSide gs t (Number n) us vs e k
 complete_right_side gs t us (inl (Named name, vs, e, k)) = at_token RightSide gs t (Variable name) us vs e k
 complete_right_side gs t us (inl (Binary a op b, vs, e, k)) =
     at_token RightSide gs t (Mark OpenParenthesis) us _ e
     (a, _, refl, (op, _, refl, (b, Mark CloseParenthesis ∷ vs, refl, (vs, refl, k))))
-complete_right_side gs t us (inr (id, xs, vs, e, k)) = at_token RightSide gs t (Callable id) us _ e (_, refl, (xs, vs, refl, k))
+complete_right_side gs t us (inr (id, xs, vs, e, k)) =
+    at_token RightSide gs t (Callable id) us _ e (_, refl, (xs, vs, refl, k))
 
-complete_first : (left : ℕ) (gs : List Goal) (t : Token) (us vs : List Token) (xs : List Expression) → t ∷ us ≡ spelled_arguments xs vs
+complete_first : (left : ℕ) (gs : List Goal) (t : Token) (us vs : List Token)
+    (xs : List Expression) → t ∷ us ≡ spelled_arguments xs vs
     → Fills gs vs → Complete (follow_first left gs t) us
 complete_first left gs t us vs [] e k = at_token (FirstArgument left) gs t (Mark CloseParenthesis) us vs e k
-complete_first left gs t us vs (Literal n ∷ xs) e k = at_token (FirstArgument left) gs t (Number n) us _ e (xs, vs, refl, k)
-complete_first left gs t us vs (Named name ∷ xs) e k = at_token (FirstArgument left) gs t (Variable name) us _ e (xs, vs, refl, k)
+complete_first left gs t us vs (Literal n ∷ xs) e k =
+    at_token (FirstArgument left) gs t (Number n) us _ e (xs, vs, refl, k)
+complete_first left gs t us vs (Named name ∷ xs) e k =
+    at_token (FirstArgument left) gs t (Variable name) us _ e (xs, vs, refl, k)
 complete_first left gs t us vs (Binary a op b ∷ xs) e k =
     at_token (FirstArgument left) gs t (Mark OpenParenthesis) us _ e
     (a, _, refl, (op, _, refl, (b, Mark CloseParenthesis ∷ spelled_more xs vs, refl, (_, refl, (xs, vs, refl, k)))))
 
-complete_argument : (left : ℕ) (gs : List Goal) (t : Token) (us vs : List Token) (xs : List Expression) → t ∷ us ≡ spelled_more xs vs
+complete_argument : (left : ℕ) (gs : List Goal) (t : Token) (us vs : List Token)
+    (xs : List Expression) → t ∷ us ≡ spelled_more xs vs
     → Fills gs vs → Complete (follow_argument left gs t) us
 complete_argument left gs t us vs [] e k = at_token (AfterArgument left) gs t (Mark CloseParenthesis) us vs e k
-complete_argument left gs t us vs (x ∷ xs) e k = at_token (AfterArgument left) gs t (Mark Comma) us _ e (x, xs, vs, refl, k)
+complete_argument left gs t us vs (x ∷ xs) e k =
+    at_token (AfterArgument left) gs t (Mark Comma) us _ e (x, xs, vs, refl, k)
 
 -- a symbol that is awaited is taken
 taken : (s : Symbol) (next : List Goal) (us : List Token) → Fills next us → Complete (follow_awaited s next (Mark s)) us
 taken s next us h = subst (λ b. Complete (cond b (Ok next) (Err NoProgram)) us) (sym (same_symbol-self s)) h
 
-complete : (g : Goal) (gs : List Goal) (t : Token) (us : List Token) → Fills (g ∷ gs) (t ∷ us) → Complete (follow_goal g gs t) us
+complete : (g : Goal) (gs : List Goal) (t : Token) (us : List Token) → Fills (g ∷ gs) (t ∷ us) →
+    Complete (follow_goal g gs t) us
 complete (Statements b f) gs t us h = complete_statement b f gs t us h
 complete Braces gs t us h = at_token Braces gs t (Mark OpenBrace) us _ h.2 (h.0, _, refl, (h.1, refl, h.3))
 complete Operand gs t us h = complete_operand gs t us h.1 h.0 h.2 h.3
@@ -405,7 +436,10 @@ sound_all gs (t ∷ ts) us = by (follow gs t) (sound_follow gs t (ts ++ us)) (λ
 
     by : (said : Result (List Goal) LangKind) → Sound said gs (ts ++ us) (t ∷ (ts ++ us))
         → ((next : List Goal) → Sound (follow_all next ts) next us (ts ++ us))
-        → Sound (elim said as (λ _. Result (List Goal) LangKind) [ Err kind ↦ Err kind | Ok next ↦ follow_all next ts ]) gs us (t ∷ (ts ++ us))
+        → Sound (elim said as (λ _. Result (List Goal) LangKind) [
+          | Err kind ↦ Err kind
+          | Ok next ↦ follow_all next ts
+        ]) gs us (t ∷ (ts ++ us))
     by (Ok next) h later = onto next (follow_all next ts) (later next) h
     by (Err kind) h later = tt
 
@@ -415,7 +449,10 @@ complete_all gs (t ∷ ts) us h = by (follow gs t) (complete_follow gs t (ts ++ 
   where
     by : (said : Result (List Goal) LangKind) → Complete said (ts ++ us)
         → ((next : List Goal) → Fills next (ts ++ us) → Complete (follow_all next ts) us)
-        → Complete (elim said as (λ _. Result (List Goal) LangKind) [ Err kind ↦ Err kind | Ok next ↦ follow_all next ts ]) us
+        → Complete (elim said as (λ _. Result (List Goal) LangKind) [
+          | Err kind ↦ Err kind
+          | Ok next ↦ follow_all next ts
+        ]) us
     by (Ok next) k later = later next k
     by (Err kind) k later = k
 
@@ -446,7 +483,8 @@ met_filled [] h = refl
 met_filled (Statements false f ∷ gs) h = plainly false f gs [] (Done, [], refl, refl)
 met_filled (_ ∷ gs) h = absurd cc
 
-no_plain : (gs : List Goal) (p : Program) (us vs : List Token) → [] ≡ spelled_statements p us → us ≡ Mark CloseBrace ∷ vs → ⊥
+no_plain : (gs : List Goal) (p : Program) (us vs : List Token) → [] ≡ spelled_statements p us →
+    us ≡ Mark CloseBrace ∷ vs → ⊥
 no_plain gs Done us vs h k = cc
 no_plain gs (Assigns name x p) us vs h k = cc
 no_plain gs (Calls name id xs p) us vs h k = cc
@@ -491,7 +529,8 @@ filled_met (Awaits s ∷ gs) h = let e = h.1 in absurd cc
 
 pub spellings_are_read : SpellingsAreRead
 spellings_are_read p =
-    by (follow_all first_goals (spelled p)) (complete_all first_goals (spelled p) [] (p, [], append-nil (spelled p), refl))
+    by (follow_all first_goals (spelled p))
+    (complete_all first_goals (spelled p) [] (p, [], append-nil (spelled p), refl))
   where
     by : (said : Result (List Goal) LangKind) → Complete said [] → IsMet said
     by (Ok gs) h = filled_met gs h
@@ -500,7 +539,8 @@ spellings_are_read p =
 pub read_tokens_are_spelled : ReadTokensAreSpelled
 read_tokens_are_spelled ts met = by (follow_all first_goals ts) (sound_all first_goals ts []) met
   where
-    by : (said : Result (List Goal) LangKind) → Sound said first_goals [] (ts ++ []) → IsMet said → (p : Program) × (spelled p ≡ ts)
+    by : (said : Result (List Goal) LangKind) → Sound said first_goals [] (ts ++ []) → IsMet said →
+        (p : Program) × (spelled p ≡ ts)
     by (Ok gs) h m =
         let k = h (met_filled gs m) in (k.0, sym (sym (append-nil ts) ∙ k.2 ∙ ap (spelled_statements k.0) k.3))
     by (Err kind) h m = absurd m

@@ -7,8 +7,8 @@ use Rattle.std.specs.List.{position_or_len}
 use Rattle.std.specs.Map.{lookup, keys_of}
 use Rattle.std.specs.Prelude.{position}
 use Rattle.indexmap.specs.IndexMap.{insert_entry}
-use Rattle.kernel_model.specs.World.{same_bytes}
-use Rattle.kernel_model.specs.LanguageReading.{is_known, with_name}
+use Rattle.graft_texts.specs.World.{same_bytes}
+use Rattle.graft_texts.specs.LanguageReading.{is_known, with_name}
 use Rattle.graft_syntax.specs.Views.{names_of}
 
 -- a key and its value
@@ -18,16 +18,6 @@ Entry = Bor (List ℕ) × Unit {0}
 -- two keys are one
 abbrev pub same_key : Bor (List ℕ) → Bor (List ℕ) → Bool
 same_key x y = same_bytes x.now y.now
-
--- a name is known where the map has it
-pub is_known-lookup : (name : List ℕ) (es : List Entry)
-    → is_known name (names_of es) ≡ is_some (lookup (λ (k : Bor (List ℕ)). same_bytes name k.now) es)
-is_known-lookup name [] = refl
-is_known-lookup name (e ∷ es) = by (same_bytes name e.0.now) _ _ (is_known-lookup name es)
-  where
-    by : (b rest : Bool) (found : Option (Unit {0})) → rest ≡ is_some found → (b || rest) ≡ is_some (cond b (Some e.1) found)
-    by true rest found h = refl
-    by false rest found h = h
 
 -- a name is put into the map
 pub with_name-insert : (k : Bor (List ℕ)) (es : List Entry)
@@ -42,9 +32,11 @@ with_name-insert k (e ∷ es) = by (same_key k e.0) (insert_entry same_key es k 
 
 -- the place of a name is that of its key
 position_or_len-names : (name : List ℕ) (es : List Entry)
-    → position_or_len (same_bytes name) (names_of es) ≡ position_or_len (λ (k : Bor (List ℕ)). same_bytes name k.now) (keys_of es)
+    → position_or_len (same_bytes name)
+    (names_of es) ≡ position_or_len (λ (k : Bor (List ℕ)). same_bytes name k.now) (keys_of es)
 position_or_len-names name [] = refl
-position_or_len-names name (e ∷ es) = ap (λ n. cond (not (same_bytes name e.0.now)) (1 + n) 0) (position_or_len-names name es)
+position_or_len-names name (e ∷ es) =
+    ap (λ n. cond (not (same_bytes name e.0.now)) (1 + n) 0) (position_or_len-names name es)
 
 length-names : (es : List Entry) → length (names_of es) ≡ length (keys_of es)
 length-names [] = refl

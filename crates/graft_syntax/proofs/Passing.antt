@@ -1,5 +1,7 @@
 -- The words of a text from a place on: behind a newline, behind a space, behind a word.
-use Rattle.std.proofs.Common.{◌≡◌, ℕ, suc, ◌+◌, ◌==◌, ◌<◌, ◌≤◌, ◌||◌, Bool, true, false, not, cond, ltb, List, [], ◌∷◌, ◌++◌, length, take, drop, get_or, Result, Ok, Err, Some, None}
+use Rattle.std.proofs.Common.{◌≡◌, ℕ, suc, ◌+◌, ◌==◌, ◌<◌, ◌≤◌, ◌||◌, Bool, true, false, not, cond}
+use Rattle.std.proofs.Common.{ltb, List, [], ◌∷◌, ◌++◌, length, take, drop, get_or, Result, Ok}
+use Rattle.std.proofs.Common.{Err, Some, None}
 use Rattle.std.proofs.Common.{refl, ap, sym, ◌∙◌, arith, add-one, drop-cons, drop-drop}
 use Rattle.std.specs.Prelude.{position}
 use Rattle.std.specs.List.{onto_first, position_or_len}
@@ -7,10 +9,10 @@ use Rattle.std.proofs.lemmas.Bool.{ltb-false}
 use Rattle.std.proofs.lemmas.List.{take_all, drop_all}
 use Rattle.std.proofs.lemmas.List.Splits.{slice_split-cons_yes, slice_split-cons_no}
 use Rattle.std.proofs.lemmas.List.Sums.{take_while-cons}
-use Rattle.kernel_model.specs.declared.language.LangKind.{LangKind}
-use Rattle.kernel_model.specs.Assembler.{lines_of, words_of}
-use Rattle.kernel_model.specs.LanguageWords.{Word, line_words, words_from, before_words}
-use Rattle.kernel_model.specs.LanguageReading.{Reading, LineFault, read_word, read_words}
+use Rattle.graft_texts.specs.declared.language.LangKind.{LangKind}
+use Rattle.graft_texts.specs.Assembler.{lines_of, words_of}
+use Rattle.graft_texts.specs.LanguageWords.{Word, line_words, words_from, before_words}
+use Rattle.graft_texts.specs.LanguageReading.{Reading, LineFault, read_word, read_words}
 use Rattle.graft_syntax.specs.declared.grammar.Refusal.{Refusal}
 use Rattle.graft_syntax.specs.declared.grammar.Refusal.TheVariants.{Of, NoMemory}
 use Rattle.graft_syntax.specs.Faults.{Stops, Refuses, fault_in}
@@ -50,13 +52,15 @@ space_first : (line b : ℕ) → (b == 32) ≡ true → (ls : List (List ℕ)) �
 space_first line b h [] = ap head_of (slice_split-cons_yes (λ c. c == 32) b [] h)
 space_first line b h (l ∷ ls) = ap head_of (slice_split-cons_yes (λ c. c == 32) b l h)
 
-space_others : (line b : ℕ) → (b == 32) ≡ true → (ls : List (List ℕ)) → others_of line (onto_first b ls) ≡ words_from line (onto_first b ls)
+space_others : (line b : ℕ) → (b == 32) ≡ true → (ls : List (List ℕ)) →
+    others_of line (onto_first b ls) ≡ words_from line (onto_first b ls)
 space_others line b h [] =
     let e = slice_split-cons_yes (λ c. c == 32) b [] h in
     ap (λ ws. line_words line (tail_of ws) ++ []) e ∙ sym (ap (λ ws. line_words line ws ++ []) e)
 space_others line b h (l ∷ ls) =
     let e = slice_split-cons_yes (λ c. c == 32) b l h in
-    ap (λ ws. line_words line (tail_of ws) ++ words_from (suc line) ls) e ∙ sym (ap (λ ws. line_words line ws ++ words_from (suc line) ls) e)
+    ap (λ ws. line_words line (tail_of ws) ++ words_from (suc line) ls) e
+    ∙ sym (ap (λ ws. line_words line ws ++ words_from (suc line) ls) e)
 
 -- a byte of a word in front
 head-onto : (b : ℕ) (ws : List (List ℕ)) → head_of (onto_first b ws) ≡ b ∷ head_of ws
@@ -71,7 +75,8 @@ byte_first : (line b : ℕ) → (b == 32) ≡ false → (ls : List (List ℕ)) �
 byte_first line b h [] = ap head_of (slice_split-cons_no (λ c. c == 32) b [] h)
 byte_first line b h (l ∷ ls) = ap head_of (slice_split-cons_no (λ c. c == 32) b l h) ∙ head-onto b (words_of l)
 
-byte_others : (line b : ℕ) → (b == 32) ≡ false → (ls : List (List ℕ)) → others_of line (onto_first b ls) ≡ others_of line ls
+byte_others : (line b : ℕ) → (b == 32) ≡ false → (ls : List (List ℕ)) →
+    others_of line (onto_first b ls) ≡ others_of line ls
 byte_others line b h [] = ap (λ ws. line_words line (tail_of ws) ++ []) (slice_split-cons_no (λ c. c == 32) b [] h)
 byte_others line b h (l ∷ ls) =
     ap (λ ws. line_words line (tail_of ws) ++ words_from (suc line) ls) (slice_split-cons_no (λ c. c == 32) b l h)
@@ -106,8 +111,11 @@ first_is : (line : ℕ) (t : List ℕ) → first_of (lines_of t) ≡ first_word 
 first_is line [] = refl
 first_is line (b ∷ t) = by (b == 10) (b == 32) (first_is line t) refl refl
   where
-    by : (p q : Bool) → first_of (lines_of t) ≡ first_word t → (b == 10) ≡ p → (b == 32) ≡ q → first_of (lines_of (b ∷ t)) ≡ first_word (b ∷ t)
-    by true q later hp hq = ap first_of (slice_split-cons_yes (λ c. c == 10) b t hp) ∙ sym (no_word b t (either (b == 10) (b == 32) hp))
+    by : (p q : Bool) → first_of (lines_of t) ≡ first_word t → (b == 10) ≡ p → (b == 32) ≡ q →
+        first_of (lines_of (b ∷ t)) ≡ first_word (b ∷ t)
+    by true q later hp hq =
+        ap first_of (slice_split-cons_yes (λ c. c == 10) b t hp)
+        ∙ sym (no_word b t (either (b == 10) (b == 32) hp))
     by false true later hp hq =
         ap first_of (slice_split-cons_no (λ c. c == 10) b t hp) ∙ space_first line b hq (lines_of t)
         ∙ sym (no_word b t (or_else (b == 10) (b == 32) hp hq))
@@ -119,11 +127,14 @@ first_is line (b ∷ t) = by (b == 10) (b == 32) (first_is line t) refl refl
 abbrev behind : List ℕ → List ℕ → List ℕ
 behind word t = drop (length word) t
 
-others_are : (line : ℕ) (t : List ℕ) → others_of line (lines_of t) ≡ words_from line (lines_of (behind (first_word t) t))
+others_are : (line : ℕ) (t : List ℕ) →
+    others_of line (lines_of t) ≡ words_from line (lines_of (behind (first_word t) t))
 others_are line [] = refl
 others_are line (b ∷ t) = by (b == 10) (b == 32) (others_are line t) refl refl
   where
-    by : (p q : Bool) → others_of line (lines_of t) ≡ words_from line (lines_of (behind (first_word t) t)) → (b == 10) ≡ p → (b == 32) ≡ q
+    by : (p q : Bool) →
+        others_of line (lines_of t) ≡ words_from line (lines_of (behind (first_word t) t)) →
+        (b == 10) ≡ p → (b == 32) ≡ q
         → others_of line (lines_of (b ∷ t)) ≡ words_from line (lines_of (behind (first_word (b ∷ t)) (b ∷ t)))
     by true q later hp hq =
         let e = slice_split-cons_yes (λ c. c == 10) b t hp in
@@ -132,14 +143,17 @@ others_are line (b ∷ t) = by (b == 10) (b == 32) (others_are line t) refl refl
     by false true later hp hq =
         let e = slice_split-cons_no (λ c. c == 10) b t hp in
         ap (others_of line) e ∙ space_others line b hq (lines_of t) ∙ sym (ap (words_from line) e)
-        ∙ sym (ap (λ w. words_from line (lines_of (behind w (b ∷ t)))) (no_word b t (or_else (b == 10) (b == 32) hp hq)))
+        ∙ sym (ap (λ w. words_from line (lines_of (behind w (b ∷ t))))
+        (no_word b t (or_else (b == 10) (b == 32) hp hq)))
     by false false later hp hq =
         let e = slice_split-cons_no (λ c. c == 10) b t hp in
         ap (others_of line) e ∙ byte_others line b hq (lines_of t) ∙ later
-        ∙ sym (ap (λ w. words_from line (lines_of (behind w (b ∷ t)))) (longer_word b t (neither (b == 10) (b == 32) hp hq)))
+        ∙ sym (ap (λ w. words_from line (lines_of (behind w (b ∷ t))))
+        (longer_word b t (neither (b == 10) (b == 32) hp hq)))
 
 -- a text has the words that are its first one and those behind it
-first_and_others : (line : ℕ) (t : List ℕ) → words_from line (lines_of t) ≡ before_words line (first_word t) (words_from line (lines_of (behind (first_word t) t)))
+first_and_others : (line : ℕ) (t : List ℕ) → words_from line (lines_of t)
+    ≡ before_words line (first_word t) (words_from line (lines_of (behind (first_word t) t)))
 first_and_others line t =
     whole line (lines_of t) ∙ ap (λ w. before_words line w (others_of line (lines_of t))) (first_is line t)
     ∙ ap (before_words line (first_word t)) (others_are line t)
@@ -150,14 +164,17 @@ first_and_others line t =
 byte_at : (text : List ℕ) (at : ℕ) → at < length text → drop at text ≡ get_or text at 0 ∷ drop (at + 1) text
 byte_at text at h = drop-cons text at 0 h ∙ ap (λ n. get_or text at 0 ∷ drop n text) (sym (add-one at))
 
-pub newline_passed : (text : List ℕ) (at line : ℕ) → at < length text → get_or text at 0 ≡ 10 → words_behind text at line ≡ words_behind text (at + 1) (line + 1)
+pub newline_passed : (text : List ℕ) (at line : ℕ) → at < length text → get_or text at 0 ≡ 10 →
+    words_behind text at line ≡ words_behind text (at + 1) (line + 1)
 newline_passed text at line h is =
     ap (λ t. words_from line (lines_of t)) (byte_at text at h ∙ ap (λ b. b ∷ drop (at + 1) text) is)
     ∙ ap (λ n. words_from n (lines_of (drop (at + 1) text))) (sym (add-one line))
 
-pub space_passed : (text : List ℕ) (at line : ℕ) → at < length text → get_or text at 0 ≡ 32 → words_behind text at line ≡ words_behind text (at + 1) line
+pub space_passed : (text : List ℕ) (at line : ℕ) → at < length text → get_or text at 0 ≡ 32 →
+    words_behind text at line ≡ words_behind text (at + 1) line
 space_passed text at line h is =
-    ap (λ t. words_from line (lines_of t)) (byte_at text at h ∙ ap (λ b. b ∷ drop (at + 1) text) is) ∙ by (lines_of (drop (at + 1) text))
+    ap (λ t. words_from line (lines_of t)) (byte_at text at h ∙ ap (λ b. b ∷ drop (at + 1) text) is)
+    ∙ by (lines_of (drop (at + 1) text))
   where
     by : (ls : List (List ℕ)) → words_from line (onto_first 32 ls) ≡ words_from line ls
     by [] = refl
@@ -168,22 +185,30 @@ word_is : (text : List ℕ) (at : ℕ) → at < length text → is_separator (ge
     → word_at text at ≡ get_or text at 0 ∷ first_word (drop (at + 1) text)
 word_is text at h is = ap first_word (byte_at text at h) ∙ longer_word (get_or text at 0) (drop (at + 1) text) is
 
-pub word_is_there : (text : List ℕ) (at : ℕ) → at < length text → is_separator (get_or text at 0) ≡ false → 0 < length (word_at text at)
+pub word_is_there : (text : List ℕ) (at : ℕ) → at < length text →
+    is_separator (get_or text at 0) ≡ false → 0 < length (word_at text at)
 word_is_there text at h is = rw (word_is text at h is) (omega arith)
 
 -- such a word, and the words behind it
 word_first : (text : List ℕ) (at line : ℕ) → at < length text → is_separator (get_or text at 0) ≡ false
-    → words_behind text at line ≡ record { line = line; bytes = word_at text at } ∷ words_behind text (at + length (word_at text at)) line
+    → words_behind text at line ≡ record {
+      line = line;
+      bytes = word_at text at;
+    } ∷ words_behind text (at + length (word_at text at)) line
 word_first text at line h is =
     first_and_others line (drop at text)
-    ∙ ap (λ t. before_words line (word_at text at) (words_from line (lines_of t))) (drop-drop (length (word_at text at)) at text)
-    ∙ by (word_at text at) (words_behind text (at + length (word_at text at)) line) (get_or text at 0) (first_word (drop (at + 1) text)) (word_is text at h is)
+    ∙ ap (λ t. before_words line (word_at text at) (words_from line (lines_of t)))
+    (drop-drop (length (word_at text at)) at text)
+    ∙ by (word_at text at) (words_behind text (at + length (word_at text at)) line)
+    (get_or text at 0) (first_word (drop (at + 1) text)) (word_is text at h is)
   where
-    by : (w : List ℕ) (ws : List Word) (b : ℕ) (bs : List ℕ) → w ≡ b ∷ bs → before_words line w ws ≡ record { line = line; bytes = w } ∷ ws
+    by : (w : List ℕ) (ws : List Word) (b : ℕ) (bs : List ℕ) → w ≡ b ∷ bs →
+        before_words line w ws ≡ record { line = line; bytes = w } ∷ ws
     by [] ws b bs e = cc
     by (c ∷ cs) ws b bs e = refl
 
-pub word_read : (text : List ℕ) (at line : ℕ) (r s : Reading) → at < length text → is_separator (get_or text at 0) ≡ false
+pub word_read : (text : List ℕ) (at line : ℕ) (r s : Reading) → at < length text →
+    is_separator (get_or text at 0) ≡ false
     → read_word r (word_at text at) ≡ Ok s
     → read_words r (words_behind text at line) ≡ read_words s (words_behind text (at + length (word_at text at)) line)
 word_read text at line r s h is said =
@@ -193,7 +218,8 @@ word_read text at line r s h is said =
       | Ok q ↦ read_words q (words_behind text (at + length (word_at text at)) line)
     ]) said
 
-pub word_refused : (text : List ℕ) (at line : ℕ) (r : Reading) (kind : LangKind) → at < length text → is_separator (get_or text at 0) ≡ false
+pub word_refused : (text : List ℕ) (at line : ℕ) (r : Reading) (kind : LangKind) →
+    at < length text → is_separator (get_or text at 0) ≡ false
     → read_word r (word_at text at) ≡ Err kind
     → read_words r (words_behind text at line) ≡ Err (record { line = line; kind = kind })
 word_refused text at line r kind h is said =
@@ -203,8 +229,10 @@ word_refused text at line r kind h is said =
       | Ok q ↦ read_words q (words_behind text (at + length (word_at text at)) line)
     ]) said
 
-pub word_stopped : (text : List ℕ) (at line : ℕ) (r : Reading) (refusal : Refusal) → at < length text → is_separator (get_or text at 0) ≡ false
-    → Stops refusal (read_word r (word_at text at)) → Refuses (fault_in line refusal) (read_words r (words_behind text at line))
+pub word_stopped : (text : List ℕ) (at line : ℕ) (r : Reading) (refusal : Refusal) →
+    at < length text → is_separator (get_or text at 0) ≡ false
+    → Stops refusal (read_word r (word_at text at)) →
+    Refuses (fault_in line refusal) (read_words r (words_behind text at line))
 word_stopped text at line r (Of kind) h is said = word_refused text at line r kind h is said
 word_stopped text at line r NoMemory h is said = said
 
@@ -219,16 +247,20 @@ not_told n true h = cc
 not_told n false h = refl
 
 pub first_word-some : (text : List ℕ) (at : ℕ) → position is_separator text ≡ Some at → take at text ≡ first_word text
-first_word-some text at h = ap (λ n. take n text) (sym (told (position_or_len is_separator text) at (ltb (position_or_len is_separator text) (length text)) h))
+first_word-some text at h =
+    ap (λ n. take n text) (sym (told (position_or_len is_separator text) at
+    (ltb (position_or_len is_separator text) (length text)) h))
 
 pub first_word-none : (text : List ℕ) → position is_separator text ≡ None → text ≡ first_word text
 first_word-none text h =
     sym (take_all (position_or_len is_separator text) text
-    (ltb-false (position_or_len is_separator text) (length text) (not_told (position_or_len is_separator text) (ltb (position_or_len is_separator text) (length text)) h)))
+    (ltb-false (position_or_len is_separator text) (length text) (not_told (position_or_len
+    is_separator text) (ltb (position_or_len is_separator text) (length text)) h)))
 
 -- ---- the end of a text
 
-pub all_read : (text : List ℕ) (at line : ℕ) (all : Result Reading LineFault) (r : Reading) → all ≡ read_words r (words_behind text at line)
+pub all_read : (text : List ℕ) (at line : ℕ) (all : Result Reading LineFault) (r : Reading) →
+    all ≡ read_words r (words_behind text at line)
     → length text ≤ at → all ≡ Ok r
 all_read text at line all r said h =
     said ∙ ap (λ t. read_words r (words_from line (lines_of t))) (drop_all at text h)

@@ -1,12 +1,12 @@
 -- Texts and what is read of them, computed.
 use Rattle.std.specs.Prelude.{◌≡◌, [], ◌∷◌, codes, refl, Ok, Err}
-use Rattle.kernel_model.specs.declared.language.LangKind.TheVariants.{NoToken, NoProgram, UnknownVariable}
-use Rattle.kernel_model.specs.declared.language.LangKind.TheVariants.{WrongArguments}
-use Rattle.kernel_model.specs.declared.language.Operator.TheVariants.{Plus}
-use Rattle.kernel_model.specs.declared.language.Symbol.TheVariants.{Assign, Semicolon, OpenParenthesis}
-use Rattle.kernel_model.specs.declared.language.Symbol.TheVariants.{CloseParenthesis}
-use Rattle.kernel_model.specs.LanguageTokens.{Number, Variable, Infix, Mark}
-use Rattle.kernel_model.specs.LanguageReading.{read, arguments}
+use Rattle.graft_texts.specs.declared.language.LangKind.TheVariants.{NoToken, NoProgram, UnknownVariable}
+use Rattle.graft_texts.specs.declared.language.LangKind.TheVariants.{WrongArguments}
+use Rattle.graft_texts.specs.declared.language.Operator.TheVariants.{Plus}
+use Rattle.graft_texts.specs.declared.language.Symbol.TheVariants.{Assign, Semicolon, OpenParenthesis}
+use Rattle.graft_texts.specs.declared.language.Symbol.TheVariants.{CloseParenthesis}
+use Rattle.graft_texts.specs.LanguageTokens.{Number, Variable, Infix, Mark}
+use Rattle.graft_texts.specs.LanguageReading.{read, arguments}
 
 nothing : read (codes "") ≡ Ok (record { tokens = []; names = arguments })
 nothing = refl

@@ -1,11 +1,11 @@
 -- What the faults of the reader stand for.
 use Rattle.std.specs.Prelude.{◌≡◌, ℕ, Result, Ok, Err, MatchResult}
-use Rattle.kernel_model.specs.declared.language.LangKind.{LangKind}
+use Rattle.graft_texts.specs.declared.language.LangKind.{LangKind}
 use Rattle.graft_syntax.specs.declared.LangFault.{LangFault}
 use Rattle.graft_syntax.specs.declared.LangFault.TheVariants as fault
 use Rattle.graft_syntax.specs.declared.grammar.Refusal.{Refusal}
 use Rattle.graft_syntax.specs.declared.grammar.Refusal.TheVariants as refusal
-use Rattle.kernel_model.specs.LanguageReading.{LineFault}
+use Rattle.graft_texts.specs.LanguageReading.{LineFault}
 
 -- a fault is the refusal that is said; want of memory stands for none
 abbrev pub Refuses : {A : Type 0} → LangFault → Result A LineFault → Type 0

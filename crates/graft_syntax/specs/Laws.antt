@@ -1,9 +1,9 @@
 -- The laws of the grammar: programs and their spellings say what the goals do.
 use Rattle.std.specs.Prelude.{◌≡◌, ◌≢◌, true, List, ◌∷◌, ◌++◌, Result, Ok, Err}
-use Rattle.kernel_model.specs.declared.language.LangKind.{LangKind}
-use Rattle.kernel_model.specs.declared.language.Goal.{Goal}
-use Rattle.kernel_model.specs.LanguageTokens.{Token}
-use Rattle.kernel_model.specs.LanguageGrammar.{Program, spelled, follow, follow_all, first_goals, is_met}
+use Rattle.graft_texts.specs.declared.language.LangKind.{LangKind}
+use Rattle.graft_texts.specs.declared.language.Goal.{Goal}
+use Rattle.graft_texts.specs.LanguageTokens.{Token}
+use Rattle.graft_texts.specs.LanguageGrammar.{Program, spelled, follow, follow_all, first_goals, is_met}
 
 -- what is read is met where a program may end
 abbrev pub IsMet : Result (List Goal) LangKind → Type 0

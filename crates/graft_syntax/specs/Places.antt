@@ -1,9 +1,9 @@
 -- Words by their places in a text, and the reader's state that keeps them so.
 use Rattle.std.specs.Prelude.{◌≡◌, ℕ, ◌==◌, ◌||◌, Bool, List, [], ◌∷◌, map, drop}
 use Rattle.std.specs.List.{before_first}
-use Rattle.kernel_model.specs.Assembler.{lines_of}
-use Rattle.kernel_model.specs.LanguageReading.{arguments, with_name}
-use Rattle.kernel_model.specs.LanguageWords.{Word, words_from}
+use Rattle.graft_texts.specs.Assembler.{lines_of}
+use Rattle.graft_texts.specs.LanguageReading.{arguments, with_name}
+use Rattle.graft_texts.specs.LanguageWords.{Word, words_from}
 use Rattle.graft_syntax.specs.declared.Token.{Token}
 use Rattle.graft_syntax.specs.declared.Token.TheVariants as code
 use Rattle.graft_syntax.specs.declared.names.Entry.{Entry}

@@ -1,7 +1,7 @@
 -- The reader's state, and its steps over a text.
 use Rattle.std.specs.Prelude.{◌≡◌, ◌≤◌, ◌<◌, ◌+◌, ◌∷◌, ℕ, List, map}
-use Rattle.kernel_model.specs.declared.language.Goal.{Goal}
-use Rattle.kernel_model.specs.LanguageReading.{Reading, read_words}
+use Rattle.graft_texts.specs.declared.language.Goal.{Goal}
+use Rattle.graft_texts.specs.LanguageReading.{Reading, read_words}
 use Rattle.graft_syntax.specs.declared.LangFault.{LangFault}
 use Rattle.graft_syntax.specs.declared.reader.Reader.{Reader}
 use Rattle.graft_syntax.specs.declared.reader.Place.{Place}

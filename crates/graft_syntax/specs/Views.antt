@@ -3,7 +3,7 @@ use Rattle.std.specs.Prelude.{ℕ, List, map}
 use Rattle.std.specs.Borrow.{Bor}
 use Rattle.graft_syntax.specs.declared.Token.{Token}
 use Rattle.graft_syntax.specs.declared.Token.TheVariants as code
-use Rattle.kernel_model.specs.LanguageTokens as spec
+use Rattle.graft_texts.specs.LanguageTokens as spec
 
 -- a token
 abbrev pub token_view : Token → spec.Token

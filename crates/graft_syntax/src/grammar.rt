@@ -4,12 +4,12 @@ ghost use Rattle.std.specs.Prelude.{◌≡◌, ◌-◌, ◌<◌, ◌∷◌, ◌+
 ghost use Rattle.std.specs.Prelude.{Ok, Err, IsTrue, OnOk, MatchOption};
 ghost use Rattle.graft_syntax.specs.Faults.{StepsAs};
 ghost use Rattle.graft_syntax.specs.Views.{token_view};
-ghost use Rattle.kernel_model.specs.LanguageGrammar as spec;
-ghost use Rattle.kernel_model.specs.LanguageReading.{is_level};
+ghost use Rattle.graft_texts.specs.LanguageGrammar as spec;
+ghost use Rattle.graft_texts.specs.LanguageReading.{is_level};
 
 use crate::tokens::{arguments_of, same_symbol};
 use crate::{LangKind, NoMemory, Symbol, Token};
-use kernel_model::Goal;
+use graft_texts::Goal;
 use std::alloc::Global;
 use std::marker::Model;
 
@@ -38,7 +38,7 @@ pub struct Goals {
 
 impl Model for Goals {
     ghost use Rattle.std.specs.Prelude.{List, reverse};
-    ghost use Rattle.kernel_model.specs.declared.language.Goal.{Goal};
+    ghost use Rattle.graft_texts.specs.declared.language.Goal.{Goal};
 
     ghost Value = { List Goal };
 

@@ -3,7 +3,7 @@
 
 ghost use Rattle.std.specs.Prelude.{◌≡◌, ◌≤◌, length, Ok, IfOk, IfErr};
 ghost use Rattle.graft_syntax.specs.Faults.{Refuses};
-ghost use Rattle.kernel_model.specs.LanguageReading as spec;
+ghost use Rattle.graft_texts.specs.LanguageReading as spec;
 
 mod grammar;
 pub mod laws;
@@ -15,7 +15,7 @@ mod tokens;
 pub use crate::program::Syntax;
 use crate::reader::read_text;
 pub use crate::tokens::{arguments_of, same_symbol};
-pub use kernel_model::{LangKind, NoMemory, Operator, Symbol};
+pub use graft_texts::{LangKind, NoMemory, Operator, Symbol};
 use std::alloc::Global;
 use thiserror::Error;
 

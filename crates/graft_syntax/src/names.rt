@@ -3,8 +3,8 @@
 
 ghost use Rattle.std.specs.Prelude.{◌≡◌, ◌<◌, ◌∷◌, ◌++◌, [], length, position, true, IsTrue, IfSome, IfOk, OnOk};
 ghost use Rattle.std.specs.List.{list_any};
-ghost use Rattle.kernel_model.specs.World.{same_bytes};
-ghost use Rattle.kernel_model.specs.LanguageReading as spec;
+ghost use Rattle.graft_texts.specs.World.{same_bytes};
+ghost use Rattle.graft_texts.specs.LanguageReading as spec;
 ghost use Rattle.graft_syntax.specs.Views.{names_of};
 ghost use Rattle.graft_syntax.specs.Places.{is_separator, first_word, word_at, words_at, known_names};
 

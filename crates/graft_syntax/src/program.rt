@@ -1,9 +1,9 @@
 //! What is read of a text.
 
 ghost use Rattle.std.specs.Prelude.{◌≡◌, ◌≤◌, ◌<◌, [], length, map, position, IfSome, OnOk};
-ghost use Rattle.kernel_model.specs.World.{same_bytes};
+ghost use Rattle.graft_texts.specs.World.{same_bytes};
 ghost use Rattle.graft_syntax.specs.Views.{token_view, names_of};
-ghost use Rattle.kernel_model.specs.LanguageReading as spec;
+ghost use Rattle.graft_texts.specs.LanguageReading as spec;
 
 use crate::{NoMemory, Token};
 use indexmap::IndexMap;
@@ -22,7 +22,7 @@ pub struct Syntax<'a> {
 
 impl<'a> Model for Syntax<'a> {
     ghost use Rattle.std.specs.Prelude.{map};
-    ghost use Rattle.kernel_model.specs.LanguageReading as spec;
+    ghost use Rattle.graft_texts.specs.LanguageReading as spec;
     ghost use Rattle.graft_syntax.specs.Views.{token_view, names_of};
 
     ghost Value = { spec.Syntax };

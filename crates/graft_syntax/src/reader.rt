@@ -6,15 +6,15 @@ ghost use Rattle.graft_syntax.specs.Faults.{Refuses, StepsAs, ReadsAs, fault_in}
 ghost use Rattle.graft_syntax.specs.Views.{token_view};
 ghost use Rattle.graft_syntax.specs.Places.{is_separator, word_at, IsWord, known_names};
 ghost use Rattle.graft_syntax.specs.Readings.{reading, reading_for, IsPassed, IsStoppedBehind};
-ghost use Rattle.kernel_model.specs.LanguageWords.{words, last_line};
-ghost use Rattle.kernel_model.specs.LanguageReading as spec;
+ghost use Rattle.graft_texts.specs.LanguageWords.{words, last_line};
+ghost use Rattle.graft_texts.specs.LanguageReading as spec;
 
 use crate::grammar::{Goals, Refusal};
 use crate::names::{Known, word_at};
 use crate::program::Syntax;
 use crate::tokens::token_of;
 use crate::{LangFault, LangKind, NoMemory, Symbol, Token};
-use kernel_model::Goal;
+use graft_texts::Goal;
 use std::alloc::Global;
 
 /// How far the reading has come.

@@ -3,8 +3,8 @@
 ghost use Rattle.std.specs.Prelude.{◌≡◌, option_map, IfSome};
 ghost use Rattle.graft_syntax.specs.Views.{token_view};
 ghost use Rattle.graft_syntax.specs.Places.{IsWord};
-ghost use Rattle.kernel_model.specs.LanguageTokens as spec;
-ghost use Rattle.kernel_model.specs.Bytes as model;
+ghost use Rattle.graft_texts.specs.LanguageTokens as spec;
+ghost use Rattle.graft_texts.specs.Bytes as model;
 
 use crate::{Operator, Symbol, Token};
 use accessor_list::id_of;

@@ -1,5 +1,7 @@
 -- A piece of the table of high marks is one of the plain table, with an answer of its own.
-use Rattle.std.proofs.Common.{Result, ◌≡◌, ℕ, ◌<◌, nat_lt, Bool, true, false, List, [], ◌∷◌, ◌++◌, length, Option, None, Some, Ok, Err, refl, sym, subst, ap, ◌∙◌, arith}
+use Rattle.std.proofs.Common.{Result, ◌≡◌, ℕ, ◌<◌, nat_lt, Bool, true, false, List, [], ◌∷◌, ◌++◌}
+use Rattle.std.proofs.Common.{length, Option, None, Some, Ok, Err, refl, sym, subst, ap, ◌∙◌}
+use Rattle.std.proofs.Common.{arith}
 use Rattle.std.proofs.lemmas.Bool.Decides.{nat_tests}
 use Rattle.kernel_model.specs.declared.Refusal.{Refusal}
 use Rattle.kernel_model.specs.declared.Refusal.TheVariants.{BadIndex}
@@ -14,7 +16,7 @@ use Rattle.kernel_model.specs.Early.{refused, begins_unless}
 use Rattle.call_pieces.specs.declared.Next.{Next}
 use Rattle.call_pieces.specs.declared.Next.TheVariants.{Ends}
 use Rattle.call_pieces.specs.Matching.{comes_after, PieceMatchesSome}
-use Rattle.kernel_model.specs.Pieces.{plain, piece_of}
+use Rattle.kernel_model.specs.Pieces.{plain_calls, piece_of}
 use Rattle.kernel_model.specs.Beside.{beside}
 use Rattle.high_marks.specs.HighMarks.{is_mark_call, mark, marked, as_plain, told_after, told, high_marks}
 
@@ -86,7 +88,7 @@ ends_with (Next.Fails why) t reply h = cc
 
 -- the two tables as one
 abbrev pub marked_calls : Meaning
-marked_calls = beside is_mark_call high_marks plain
+marked_calls = beside is_mark_call high_marks plain_calls
 
 -- what the piece of a poke leaves by them
 poke_leaves : (v : World) (images : ImageTable) (s : Objects) (blocks : Blocks)

@@ -8,7 +8,7 @@ use Rattle.kernel_model.specs.declared.Reply.TheVariants.{One}
 use Rattle.kernel_model.specs.Objects.{Objects, with_things}
 use Rattle.kernel_model.specs.Access.{set_cell}
 use Rattle.kernel_model.specs.Meaning.{Meaning, Piece, After, EndsWith, registers_of}
-use Rattle.kernel_model.specs.Pieces.{plain, piece_of}
+use Rattle.kernel_model.specs.Pieces.{plain_calls, piece_of}
 
 -- the two calls
 abbrev pub is_mark_call : SysCall → Bool
@@ -41,7 +41,7 @@ told c x = record x { after = told_after c x.after }
 -- the table of high marks: it differs from the plain table in what its pieces do
 abbrev pub high_marks : Meaning
 high_marks =
-    record plain {
+    record plain_calls {
       piece = λ v images s blocks p t answer io.
           let c = as_plain s p t.call in
           told c (piece_of c t.piece v s blocks p (registers_of answer) io);

@@ -18,11 +18,11 @@ use Rattle.kernel_model.specs.Meaning.{Stage, Answer, After, Continues, Fails, r
 use Rattle.kernel_model.specs.Alike.{AgreeOn, SameLiving, is_needed_exclusively}
 use Rattle.kernel_model.specs.Early.{TOP_POINT, refused, begins_unless, plain_early}
 use Rattle.kernel_model.specs.Needs.{piece_needs, piece_ask}
-use Rattle.kernel_model.specs.Pieces.{plain, piece_fits, pieces_left}
+use Rattle.kernel_model.specs.Pieces.{plain_calls, piece_fits, pieces_left}
 use Rattle.kernel_model.specs.Laws.{Laws, NeedLaws, AskLaws, FootprintLaws, PieceLaws, DiskLaws}
 use Rattle.kernel_model.specs.Laws.{StageLaws, IsStanding, IsReady, IsRightAnswer, PieceAlike}
 use Rattle.kernel_model.specs.Laws.{before_point, continues}
-use Rattle.plain_rules.specs.PlainLaws.{laws_of_plain}
+use Rattle.call_pieces.specs.PlainLaws.{laws_of_plain}
 use Rattle.high_marks.specs.HighMarks.{as_plain, told_after, told, high_marks}
 
 -- ---- the call as the plain table does it
@@ -124,14 +124,14 @@ stage_in s p t = record t { call = as_plain s p t.call }
 
 -- a call stands in the plain table where it stands here
 stands : (v : World) (images : ImageTable) (s : Objects) (p : ℕ) (t : Stage) →
-    IsStanding high_marks v images s p t → IsStanding plain v images s p t
+    IsStanding high_marks v images s p t → IsStanding plain_calls v images s p t
 stands v images s p t h =
     record { store = h.store; caller = h.caller; granted = h.granted; fits = h.fits }
 
 -- and is ready there as the plain table does it
 ready : (v : World) (images : ImageTable) (s : Objects) (p : ℕ) (t : Stage)
     (answer : Option Answer) → IsReady high_marks v images s p t answer →
-    IsReady plain v images s p (stage_in s p t) answer
+    IsReady plain_calls v images s p (stage_in s p t) answer
 ready v images s p t answer h =
     record {
       standing = record {
@@ -150,14 +150,14 @@ ready v images s p t answer h =
 alike : (ns : List Need) (v : World) (images : ImageTable) (s u : Objects) (blocks : Blocks)
     (p : ℕ) (t : Stage) (answer : Option Answer) (io : List Bool) →
     as_plain u p t.call ≡ as_plain s p t.call →
-    PieceAlike ns (plain.piece v images s blocks p (stage_in s p t) answer io)
-    (plain.piece v images u blocks p (stage_in s p t) answer io) →
+    PieceAlike ns (plain_calls.piece v images s blocks p (stage_in s p t) answer io)
+    (plain_calls.piece v images u blocks p (stage_in s p t) answer io) →
     PieceAlike ns (high_marks.piece v images s blocks p t answer io)
     (high_marks.piece v images u blocks p t answer io)
 alike ns v images s u blocks p t answer io same h =
     let c = as_plain s p t.call in
     subst (λ (d : SysCall). PieceAlike ns (high_marks.piece v images s blocks p t answer io)
-    (told d (plain.piece v images u blocks p (record t { call = d }) answer io))) (sym same)
+    (told d (plain_calls.piece v images u blocks p (record t { call = d }) answer io))) (sym same)
     record {
       objects = h.objects;
       blocks = h.blocks;
@@ -169,9 +169,9 @@ alike ns v images s u blocks p t answer io same h =
 -- the other state is ready too for the call that is done in the first
 ready_too : (v : World) (images : ImageTable) (s u : Objects) (p : ℕ) (t : Stage)
     (answer : Option Answer) → as_plain u p t.call ≡ as_plain s p t.call →
-    IsReady high_marks v images u p t answer → IsReady plain v images u p (stage_in s p t) answer
+    IsReady high_marks v images u p t answer → IsReady plain_calls v images u p (stage_in s p t) answer
 ready_too v images s u p t answer same k =
-    subst (λ (d : SysCall). IsReady plain v images u p (record t { call = d }) answer) same
+    subst (λ (d : SysCall). IsReady plain_calls v images u p (record t { call = d }) answer) same
     (ready v images u p t answer k)
 
 -- ---- the laws
@@ -219,8 +219,8 @@ looks_of_marks v images s u blocks p t answer io h k agree living =
     let same = same_call t.call t.piece v s u p agree in
     alike ns v images s u blocks p t answer io same
     (subst (λ (ms : List Need).
-    PieceAlike ms (plain.piece v images s blocks p (stage_in s p t) answer io)
-    (plain.piece v images u blocks p (stage_in s p t) answer io)) e
+    PieceAlike ms (plain_calls.piece v images s blocks p (stage_in s p t) answer io)
+    (plain_calls.piece v images u blocks p (stage_in s p t) answer io)) e
     (laws_of_plain.footprint.looks v images s u blocks p (stage_in s p t) answer io
     (ready v images s p t answer h) (ready_too v images s u p t answer same k)
     (subst (λ (ms : List Need). AgreeOn ms s u) (sym e) agree) living))
@@ -241,8 +241,8 @@ asking_looks_of_marks v images s u blocks p t answer io a h k asks agree living 
     ∙ sym (asks_as_it_is s t.call t.piece v s.things p a asks) in
     alike ns v images s u blocks p t answer io same
     (subst (λ (ms : List Need).
-    PieceAlike ms (plain.piece v images s blocks p (stage_in s p t) answer io)
-    (plain.piece v images u blocks p (stage_in s p t) answer io)) e
+    PieceAlike ms (plain_calls.piece v images s blocks p (stage_in s p t) answer io)
+    (plain_calls.piece v images u blocks p (stage_in s p t) answer io)) e
     (laws_of_plain.footprint.asking_looks v images s u blocks p (stage_in s p t) answer io a
     (ready v images s p t answer h) (ready_too v images s u p t answer same k)
     (same_asks s t.call t.piece v s.things p ∙ asks)
@@ -283,7 +283,7 @@ pieces_of_marks =
           laws_of_plain.piece.refused v images s blocks p (stage_in s p t) answer io why
           (same_sync s p t.call other)
           (told_fails (as_plain s p t.call)
-          (plain.piece v images s blocks p (stage_in s p t) answer io).after why fails);
+          (plain_calls.piece v images s blocks p (stage_in s p t) answer io).after why fails);
       whole_blocks = λ v images s blocks p t answer io h.
           laws_of_plain.piece.whole_blocks v images s blocks p (stage_in s p t) answer io
           (ready v images s p t answer h);
@@ -294,13 +294,13 @@ pieces_of_marks =
           laws_of_plain.piece.caller_lives v images s blocks p (stage_in s p t) answer io
           (ready v images s p t answer h)
           (told_continues (as_plain s p t.call)
-          (plain.piece v images s blocks p (stage_in s p t) answer io).after on);
+          (plain_calls.piece v images s blocks p (stage_in s p t) answer io).after on);
       one_graft = λ v images s blocks p t answer io q pt r pu h.
           laws_of_plain.piece.one_graft v images s blocks p (stage_in s p t) answer io q pt r pu
           (ready v images s p t answer h);
       graft_ends = λ v images s blocks p t answer io q pt h new.
           told_ends (as_plain s p t.call)
-          (plain.piece v images s blocks p (stage_in s p t) answer io).after
+          (plain_calls.piece v images s blocks p (stage_in s p t) answer io).after
           (laws_of_plain.piece.graft_ends v images s blocks p (stage_in s p t) answer io q pt
           (ready v images s p t answer h) new);
       one_slice = λ v images s blocks p t answer io h.
@@ -308,7 +308,7 @@ pieces_of_marks =
           (ready v images s p t answer h);
       slice_ends = λ v images s blocks p t answer io h more.
           told_ends (as_plain s p t.call)
-          (plain.piece v images s blocks p (stage_in s p t) answer io).after
+          (plain_calls.piece v images s blocks p (stage_in s p t) answer io).after
           (laws_of_plain.piece.slice_ends v images s blocks p (stage_in s p t) answer io
           (ready v images s p t answer h) more);
     }
@@ -327,7 +327,7 @@ disk_calls_of_marks =
       fault = λ v images s blocks p t answer io fails.
           laws_of_plain.disk_calls.fault v images s blocks p (stage_in s p t) answer io
           (told_fails (as_plain s p t.call)
-          (plain.piece v images s blocks p (stage_in s p t) answer io).after DiskFault fails);
+          (plain_calls.piece v images s blocks p (stage_in s p t) answer io).after DiskFault fails);
     }
 
 -- the laws of stages
@@ -340,9 +340,9 @@ stages_of_marks =
           laws_of_plain.stages.next v images s blocks p (stage_in s p t) u answer io
           (ready v images s p t answer h)
           (told_goes_on (as_plain s p t.call)
-          (plain.piece v images s blocks p (stage_in s p t) answer io).after u on);
+          (plain_calls.piece v images s blocks p (stage_in s p t) answer io).after u on);
       same_call_next = λ v images s blocks p t u answer io h on.
-          let after = (plain.piece v images s blocks p (stage_in s p t) answer io).after in
+          let after = (plain_calls.piece v images s blocks p (stage_in s p t) answer io).after in
           laws_of_plain.stages.same_call_next v images s blocks p (stage_in s p t) u answer io
           (ready v images s p t answer h)
           (told_goes_on (as_plain s p t.call) after u on)
@@ -352,8 +352,8 @@ stages_of_marks =
       some_left = λ v images s p t h.
           laws_of_plain.stages.some_left v images s p t (stands v images s p t h);
       left_falls = λ v images s blocks p t u answer io h on.
-          let x = plain.piece v images s blocks p (stage_in s p t) answer io in
-          subst (λ (n : ℕ). plain.left v x.objects p u < n)
+          let x = plain_calls.piece v images s blocks p (stage_in s p t) answer io in
+          subst (λ (n : ℕ). plain_calls.left v x.objects p u < n)
           (same_left s t.call t.piece s.things p)
           (laws_of_plain.stages.left_falls v images s blocks p (stage_in s p t) u answer io
           (ready v images s p t answer h)

@@ -1,24 +1,18 @@
 //! The high marks beside the plain calls, and a call of theirs from beginning to end.
 
 ghost use Rattle.std.specs.Prelude.{◌≡◌, ◌<◌, true, [], IfOk, IfErr, OnErr};
-ghost use Rattle.disk_log.specs.Calls.{Made};
+ghost use Rattle.call_pieces.specs.Calls.{Made};
 ghost use Rattle.kernel_model.specs.Policies.{lives};
 ghost use Rattle.kernel_model.specs.declared.Refusal.TheVariants.{BadIndex};
 ghost use Rattle.kernel_model.specs.declared.Reply.TheVariants.{One};
-ghost use Rattle.kernel_state.specs.Stores.{world_of_store, objects_of, queue_of};
+ghost use Rattle.call_pieces.specs.Stores.{world_of_store, objects_of, queue_of};
 ghost use Rattle.call_pieces.specs.declared.Next.TheVariants.{Ends};
 ghost use Rattle.high_marks.specs.HighMarks.{mark, marked};
 
 use crate::HighMarks;
 use arrayvec::ArrayVec;
-use call_needs::{Gift, Work};
-use call_pieces::{Calls, Next, Plain};
-use call_tables::Beside;
-use disk_log::DiskLog;
-use graft_points::Policy;
+use call_pieces::{Beside, Calls, Disk, DiskLog, Gift, Next, Plain, Policy, Store, Work};
 use kernel_model::{BareCall, Refusal};
-use kernel_state::Store;
-use vino_base::Disk;
 
 /// The high marks beside the plain calls: a table as any other.
 pub type MarkedCalls = Beside<HighMarks, Plain>;

@@ -10,14 +10,12 @@ mod marks;
 
 use arrayvec::ArrayVec;
 pub use beside::{MarkedCalls, poke_once};
-use call_needs::{Gift, Needs, TOP_POINT, Work, asks, early_upto, need};
-use call_pieces::{Calls, Next, piece};
-use disk_log::DiskLog;
-use graft_points::Policy;
+use call_pieces::{
+    Calls, Disk, DiskLog, Gift, Needs, Next, Policy, Store, TOP_POINT, Work, asks, early_upto,
+    need, piece,
+};
 use kernel_model::{BLOCK_BYTES, BareCall, Point, Refusal, Rules};
-use kernel_state::Store;
 use marks::{as_plain, told};
-use vino_base::Disk;
 
 /// The table of high marks: `poke` raises a cell and never lowers it, and answers what it is then;
 /// `peek` tells it.

@@ -3,16 +3,13 @@
 ghost use Rattle.std.specs.Prelude.{◌≡◌, ℕ, true, List};
 ghost use Rattle.kernel_model.specs.Bare.{call_with};
 ghost use Rattle.kernel_model.specs.Meaning.{Stage};
-ghost use Rattle.kernel_state.specs.Stores.{world_of_store, objects_of};
-ghost use Rattle.call_needs.specs.Works.{IsDue, call_of, stage_of};
+ghost use Rattle.call_pieces.specs.Stores.{world_of_store, objects_of};
+ghost use Rattle.call_pieces.specs.Works.{IsDue, call_of, stage_of};
 ghost use Rattle.call_pieces.specs.Matching.{comes_after, is_fault, goes_on};
 ghost use Rattle.high_marks.specs.HighMarks as spec;
 
-use call_needs::Work;
-use call_pieces::Next;
-use graft_points::Policy;
+use call_pieces::{Next, Policy, Store, Work};
 use kernel_model::{BareCall, Reply};
-use kernel_state::Store;
 
 /// The call as the plain table is to do it: a poke with the greater of its value and its cell's.
 pub(crate) fn as_plain<B: Policy>(work: &Work, store: &Store<B>) -> BareCall

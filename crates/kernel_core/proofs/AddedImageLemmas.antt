@@ -1,14 +1,16 @@
 -- What an image line makes of a kernel, by the slot and the bytes.
-use Rattle.std.proofs.Common.{◌≡◌, ℕ, ◌<◌, ◌≤◌, Bool, true, false, is_some, List, Option, Some, None, Result, Ok, Err, codes, length, arith, refl, sym, ap, ◌∙◌, subst}
+use Rattle.std.proofs.Common.{◌≡◌, ℕ, ◌<◌, ◌≤◌, Bool, true, false, is_some, List, Option, Some}
+use Rattle.std.proofs.Common.{None, Result, Ok, Err, codes, length, arith, refl, sym, ap, ◌∙◌}
+use Rattle.std.proofs.Common.{subst}
 use Rattle.std.specs.Prelude.{nat_lt}
 use Rattle.std.proofs.lemmas.Bool.Decides.{nat_tests}
 use Rattle.kernel_model.specs.World.{Image, ImageTable}
 use Rattle.kernel_model.specs.Images.{LoadFault}
 use Rattle.kernel_model.specs.Kernel.{Kernel}
 use Rattle.kernel_model.specs.Meaning.{Meaning}
-use Rattle.kernel_model.specs.Session.{add_image, image_added, image_answer}
+use Rattle.kernel_model.specs.ImageLines.{add_image, image_added, image_answer}
 use Rattle.kernel_model.specs.Sound.{IsAtRest}
-use Rattle.kernel_model.specs.Text.{image_text}
+use Rattle.kernel_model.specs.ImageTexts.{image_text}
 use Rattle.graft_loader.specs.declared.LoadFault.{LoadFault as LoaderFault}
 use Rattle.graft_loader.specs.Faults.{IsRefused, refusal_of, refusal_text}
 use Rattle.placed_laws.specs.Placed.{Placed}
@@ -33,14 +35,16 @@ refused_by high old =
       | false ↦ elim old as (λ _. Option ImageRefusal) [ Some i ↦ Some Taken | None ↦ None ]
     ]
 
-refused_is : (high : Bool) (old : Option Image) (images : ImageTable) (slot : ℕ) → nat_lt 31 slot ≡ high → images slot ≡ old →
+refused_is : (high : Bool) (old : Option Image) (images : ImageTable) (slot : ℕ) →
+    nat_lt 31 slot ≡ high → images slot ≡ old →
     slot_refused images slot ≡ refused_by high old
 refused_is true old images slot h i = rw h refl
 refused_is false None images slot h i = rw (h, i) refl
 refused_is false (Some x) images slot h i = rw (h, i) refl
 
 -- a refused slot leaves the kernel, and says so
-left_by : (high : Bool) (old : Option Image) (slot : ℕ) (r : Result Image LoadFault) (k : Kernel) (refusal : ImageRefusal) →
+left_by : (high : Bool) (old : Option Image) (slot : ℕ) (r : Result Image LoadFault) (k : Kernel)
+    (refusal : ImageRefusal) →
     refused_by high old ≡ Some refusal → answer_by high old slot r k ≡ (k, refusal_said refusal)
 left_by true old slot r k refusal h = let same : BadSlot ≡ refusal = cc in rw (← same) refl
 left_by false (Some i) slot r k refusal h = let same : Taken ≡ refusal = cc in rw (← same) refl
@@ -54,7 +58,8 @@ free_by false (Some i) slot r k h = cc
 free_by false None slot r k h = refl
 
 -- the same of the kernel in place
-answers_refused : (x : Placed) (k : Kernel) (slot : ℕ) (r : Result Image LoadFault) (refusal : ImageRefusal) → x.images ≡ k.images →
+answers_refused : (x : Placed) (k : Kernel) (slot : ℕ) (r : Result Image LoadFault)
+    (refusal : ImageRefusal) → x.images ≡ k.images →
     slot_refused x.images slot ≡ Some refusal → image_answer slot r k ≡ (k, refusal_said refusal)
 answers_refused x k slot r refusal same h =
     left_by (nat_lt 31 slot) (k.images slot) slot r k refusal
@@ -80,18 +85,22 @@ added_as m slot r k l y said is stands rests =
     }
 
 -- a slot that is refused
-pub slot_is_refused : (m : Meaning) (x : Placed) (slot : ℕ) (r : Result Image LoadFault) (k : Kernel) (refusal : ImageRefusal) →
-    slot_refused x.images slot ≡ Some refusal → StandsFor m x k → IsAtRest m k → ImageIsAdded m slot r k x (refusal_said refusal)
+pub slot_is_refused : (m : Meaning) (x : Placed) (slot : ℕ) (r : Result Image LoadFault)
+    (k : Kernel) (refusal : ImageRefusal) →
+    slot_refused x.images slot ≡ Some refusal → StandsFor m x k → IsAtRest m k →
+    ImageIsAdded m slot r k x (refusal_said refusal)
 slot_is_refused m x slot r k refusal h stands rests =
     added_as m slot r k k x (refusal_said refusal) (answers_refused x k slot r refusal stands.images h) stands rests
 
 -- bytes that are refused
-added_none : (slot : ℕ) (r : Result Image LoadFault) (k : Kernel) (refusal : Option LoadFault) → is_some refusal ≡ true →
+added_none : (slot : ℕ) (r : Result Image LoadFault) (k : Kernel) (refusal : Option LoadFault) →
+    is_some refusal ≡ true →
     IsRefused refusal r → image_added slot r k ≡ (k, refusal_text refusal)
 added_none slot r k None some h = cc
 added_none slot r k (Some fault) some h = rw h refl
 
-pub bytes_are_refused : (m : Meaning) (x : Placed) (slot : ℕ) (r : Result Image LoadFault) (k : Kernel) (refusal : Option LoadFault) →
+pub bytes_are_refused : (m : Meaning) (x : Placed) (slot : ℕ) (r : Result Image LoadFault)
+    (k : Kernel) (refusal : Option LoadFault) →
     slot_refused x.images slot ≡ None → is_some refusal ≡ true → IsRefused refusal r → StandsFor m x k → IsAtRest m k →
     ImageIsAdded m slot r k x (refusal_text refusal)
 bytes_are_refused m x slot r k refusal free some h stands rests =
@@ -99,7 +108,8 @@ bytes_are_refused m x slot r k refusal free some h stands rests =
     (answers_free x k slot r stands.images free ∙ added_none slot r k refusal some h) stands rests
 
 -- an image that is loaded, of so many instructions and data bytes
-pub image_is_added : (m : Meaning) (x y : Placed) (slot : ℕ) (r : Result Image LoadFault) (i : Image) (k : Kernel) (n d : ℕ) →
+pub image_is_added : (m : Meaning) (x y : Placed) (slot : ℕ) (r : Result Image LoadFault)
+    (i : Image) (k : Kernel) (n d : ℕ) →
     slot_refused x.images slot ≡ None → r ≡ Ok i → n ≡ length i.code → d ≡ length i.body →
     StandsFor m x k → StandsFor m y (add_image slot i k) → IsAtRest m (add_image slot i k) →
     ImageIsAdded m slot r k y (image_said (Ok (n, d)))
@@ -114,7 +124,8 @@ image_is_added m x y slot r i k n d free is n_is d_is before stands rests =
 pub high_slot : (images : ImageTable) (slot : ℕ) → 31 < slot → slot_refused images slot ≡ Some BadSlot
 high_slot images slot high = let is : nat_lt 31 slot ≡ true = grind (arith, nat_tests, high) in rw is refl
 
-pub used_slot : (images : ImageTable) (slot : ℕ) → slot ≤ 31 → is_some (images slot) ≡ true → slot_refused images slot ≡ Some Taken
+pub used_slot : (images : ImageTable) (slot : ℕ) → slot ≤ 31 → is_some (images slot) ≡ true →
+    slot_refused images slot ≡ Some Taken
 used_slot images slot low used =
     let is : nat_lt 31 slot ≡ false = grind (arith, nat_tests, low) in rw (is, used) refl
 

@@ -5,9 +5,9 @@ use Rattle.kernel_model.specs.World.{Image, ImageTable}
 use Rattle.kernel_model.specs.Images.{LoadFault}
 use Rattle.kernel_model.specs.Kernel.{Kernel}
 use Rattle.kernel_model.specs.Meaning.{Meaning}
-use Rattle.kernel_model.specs.Session.{image_answer}
+use Rattle.kernel_model.specs.ImageLines.{image_answer}
 use Rattle.kernel_model.specs.Sound.{IsAtRest}
-use Rattle.kernel_model.specs.Text.{spaced}
+use Rattle.kernel_model.specs.Bytes.{spaced}
 use Rattle.graft_loader.specs.declared.LoadFault.TheVariants.{NoMemory}
 use Rattle.graft_loader.specs.Faults.{fault_text}
 use Rattle.placed_laws.specs.Placed.{Placed}

@@ -1,6 +1,6 @@
 -- A part of an event of a running kernel.
 use Rattle.std.specs.Prelude.{◌≡◌, ℕ, suc, ◌+◌, ◌≤◌, Bool, true, false, not, ◌&&◌, is_some, List, ◌++◌, Some, None}
-use Rattle.disk_log.specs.Calls.{Knows, Made, failures}
+use Rattle.call_pieces.specs.Calls.{Knows, Made, failures}
 use Rattle.kernel_model.specs.declared.Note.{Note}
 use Rattle.kernel_model.specs.declared.Note.TheVariants.{Ran}
 use Rattle.kernel_model.specs.World.{Blocks}
@@ -8,14 +8,14 @@ use Rattle.kernel_model.specs.Meaning.{Meaning}
 use Rattle.kernel_model.specs.Events.{in_order}
 use Rattle.kernel_model.specs.Kernel.{Kernel}
 use Rattle.kernel_model.specs.Sound.{HasWholeBlocks, IsAtRest}
-use Rattle.kernel_state.specs.Stores.{world_of_store}
+use Rattle.call_pieces.specs.Stores.{world_of_store}
 use Rattle.placed_laws.specs.Placed.{Placed, PlacedRun, has_some, placed_blocker}
 use Rattle.placed_laws.specs.Stands.{StandsFor}
 use Rattle.placed_laws.specs.PlacedSteps.{placed_joins, placed_noted, placed_step}
 use Rattle.placed_laws.specs.PlacedEvents.{placed_settled, placed_steps}
 use Rattle.running_kernel.specs.declared.running.Running.{Running}
 use Rattle.kernel_steps.specs.Faults.{fault_notes}
-use Rattle.kernel_steps.specs.Moments.{moment, Moment}
+use Rattle.kernel_steps.specs.Moments.{kernel_moment, KernelMoment}
 use Rattle.kernel_steps.specs.Runs.{KeepsRunning}
 use Rattle.kernel_steps.specs.Refines.{first_notes, Refines, RunMatches}
 use Rattle.running_kernel.specs.Views.{placed_of, run_of, IsRunning, HasAbstraction}
@@ -23,9 +23,9 @@ use Rattle.running_kernel.specs.Views.{placed_of, run_of, IsRunning, HasAbstract
 -- A change of an event under way was made with which the clock rises by one, and left a sound
 -- kernel. The set-up stays.
 pub record RefinesAndTicks {C B M : Type 0} {P : _} (m : Meaning) (f : PlacedRun → PlacedRun)
-    (a b : Moment (Running C B M P)) : Type 0 where
-  pub refines : Refines f (moment (placed_of a.kernel) a.notes a.disk)
-      (moment (placed_of b.kernel) b.notes b.disk)
+    (a b : KernelMoment (Running C B M P)) : Type 0 where
+  pub refines : Refines f (kernel_moment (placed_of a.kernel) a.notes a.disk)
+      (kernel_moment (placed_of b.kernel) b.notes b.disk)
   pub running : IsRunning b.kernel
   pub abstraction : HasAbstraction m (placed_of b.kernel)
   pub world : world_of_store b.kernel.store ≡ world_of_store a.kernel.store
@@ -42,7 +42,7 @@ pub record Rests (m : Meaning) (x : Placed) (blocks : Blocks) : Type 0 where
 
 -- A change of an event under way did what is said of it wherever it began at rest, and left the
 -- disk and the notes as `Refines` says.
-pub record RefinesFromRest (m : Meaning) (f : PlacedRun → PlacedRun) (a b : Moment Placed) :
+pub record RefinesFromRest (m : Meaning) (f : PlacedRun → PlacedRun) (a b : KernelMoment Placed) :
     Type 0 where
   -- which of its calls of the disk failed
   pub io : List Bool
@@ -53,7 +53,7 @@ pub record RefinesFromRest (m : Meaning) (f : PlacedRun → PlacedRun) (a b : Mo
   pub faulted : fault_notes b.notes ≤ fault_notes a.notes + failures io
 
 -- the same of one that leaves rest
-pub record RefinesToRest (m : Meaning) (f : PlacedRun → PlacedRun) (a b : Moment Placed) :
+pub record RefinesToRest (m : Meaning) (f : PlacedRun → PlacedRun) (a b : KernelMoment Placed) :
     Type 0 where
   pub refines : RefinesFromRest m f a b
   pub rests : (blocks : Blocks) (notes : List Note) (rest : List Bool) → Rests m a.kernel blocks →
@@ -62,16 +62,16 @@ pub record RefinesToRest (m : Meaning) (f : PlacedRun → PlacedRun) (a b : Mome
 
 -- a change of a running kernel that did so, and left a sound one
 pub record RunsFromRest {C B M : Type 0} {P : _} (m : Meaning) (f : PlacedRun → PlacedRun)
-    (a b : Moment (Running C B M P)) : Type 0 where
-  pub refines : RefinesFromRest m f (moment (placed_of a.kernel) a.notes a.disk)
-      (moment (placed_of b.kernel) b.notes b.disk)
+    (a b : KernelMoment (Running C B M P)) : Type 0 where
+  pub refines : RefinesFromRest m f (kernel_moment (placed_of a.kernel) a.notes a.disk)
+      (kernel_moment (placed_of b.kernel) b.notes b.disk)
   pub on : KeepsRunning m a.kernel b.kernel
 
 -- the same of one that leaves rest
 pub record RunsToRest {C B M : Type 0} {P : _} (m : Meaning) (f : PlacedRun → PlacedRun)
-    (a b : Moment (Running C B M P)) : Type 0 where
-  pub refines : RefinesToRest m f (moment (placed_of a.kernel) a.notes a.disk)
-      (moment (placed_of b.kernel) b.notes b.disk)
+    (a b : KernelMoment (Running C B M P)) : Type 0 where
+  pub refines : RefinesToRest m f (kernel_moment (placed_of a.kernel) a.notes a.disk)
+      (kernel_moment (placed_of b.kernel) b.notes b.disk)
   pub on : KeepsRunning m a.kernel b.kernel
 
 -- ---- instructions
@@ -115,7 +115,7 @@ pub record Leads (m : Meaning) (p n : ℕ) (x y : Placed) : Type 0 where
 
 -- A change of an event under way has come, from rest, to a point of rest from which this is left of
 -- it.
-pub record HasReached (m : Meaning) (f left : PlacedRun → PlacedRun) (a b : Moment Placed) :
+pub record HasReached (m : Meaning) (f left : PlacedRun → PlacedRun) (a b : KernelMoment Placed) :
     Type 0 where
   pub io : List Bool
   pub made : Made a.disk b.disk io

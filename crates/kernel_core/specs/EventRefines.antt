@@ -1,7 +1,7 @@
 -- What an event makes of a running kernel, and what always holds of one.
 use Rattle.std.specs.Prelude.{◌≡◌, ℕ, ◌≤◌, Bool, List, ◌++◌, Option}
-use Rattle.disk_log.specs.Calls.{Knows, Made, failures}
-use Rattle.vino_base.specs.Disks.{DiskSeen}
+use Rattle.call_pieces.specs.Calls.{Knows, Made, failures}
+use Rattle.call_pieces.specs.Disks.{DiskSeen}
 use Rattle.kernel_model.specs.declared.Event.{Event}
 use Rattle.kernel_model.specs.declared.Note.{Note}
 use Rattle.kernel_model.specs.World.{Blocks}

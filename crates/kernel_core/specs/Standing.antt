@@ -1,17 +1,17 @@
 -- What a kernel is before `boot`, and what a boot makes of it.
 use Rattle.std.specs.Prelude.{◌≡◌, ℕ, Bool, true, false, List, [], length, Option}
-use Rattle.disk_log.specs.Calls.{Knows, Made}
-use Rattle.vino_base.specs.Disks.{DiskSeen}
+use Rattle.call_pieces.specs.Calls.{Knows, Made}
+use Rattle.call_pieces.specs.Disks.{DiskSeen}
 use Rattle.kernel_model.specs.declared.FileRow.{FileRow}
 use Rattle.kernel_model.specs.World.{Blocks}
 use Rattle.kernel_model.specs.Directory.{directory_of, usable_count}
 use Rattle.kernel_model.specs.Meaning.{Meaning, disk_fails}
 use Rattle.kernel_model.specs.Opening.{opening_kernel, opening_policy}
 use Rattle.kernel_model.specs.Sound.{IsAtRest}
-use Rattle.graft_points.specs.Shelf.{pol_of, first_choice}
-use Rattle.kernel_state.specs.declared.Setup.{Setup}
-use Rattle.kernel_state.specs.Stores.{views_of}
-use Rattle.kernel_state.specs.Sound.{world_for}
+use Rattle.call_pieces.specs.Shelf.{pol_of, first_choice}
+use Rattle.call_pieces.specs.declared.Setup.{Setup}
+use Rattle.call_pieces.specs.Stores.{views_of}
+use Rattle.call_pieces.specs.Sound.{world_for}
 use Rattle.placed_laws.specs.Placed.{Placed}
 use Rattle.placed_laws.specs.Stands.{StandsFor}
 use Rattle.running_kernel.specs.declared.running.Running.{Running}

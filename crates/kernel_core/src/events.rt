@@ -4,9 +4,9 @@ ghost use Rattle.std.specs.Prelude.{◌≡◌, ◌<◌, ◌-◌, ◌^◌, [], tr
 ghost use Rattle.kernel_model.specs.declared.Event.TheVariants.{Step, Sys};
 ghost use Rattle.kernel_model.specs.Bare.{call_with, event_with};
 ghost use Rattle.kernel_model.specs.Policies.{lives};
-ghost use Rattle.kernel_state.specs.Stores.{world_of_store, queue_of};
+ghost use Rattle.call_pieces.specs.Stores.{world_of_store, queue_of};
 ghost use Rattle.placed_laws.specs.PlacedEvents.{placed_event_on, placed_last, placed_settled};
-ghost use Rattle.kernel_steps.specs.Moments.{moment};
+ghost use Rattle.kernel_steps.specs.Moments.{kernel_moment};
 ghost use Rattle.running_kernel.specs.Sound.{IsSoundFor};
 ghost use Rattle.kernel_steps.specs.Runs.{CanRun, IsSoundOn, RefinesAndKeeps};
 ghost use Rattle.kernel_core.specs.EventParts.{RunsFromRest};
@@ -20,19 +20,17 @@ use crate::settle::settle_begun;
 use crate::stepping::step_event;
 use crate::ticks::tick_event;
 use arrayvec::ArrayVec;
-use call_pieces::Calls;
-use graft_points::Policy;
+use call_pieces::{Calls, Disk, Policy};
 use kernel_model::{BLOCK_BYTES, BareEvent, BareNote, Refusal};
 use kernel_steps::{Request, Trace};
 use running_kernel::Running;
-use vino_base::Disk;
 
 /// The most instructions of one event.
 const MOST_STEPS: u32 = 65_536;
 
 /// A call of process p begins, which lives and has none, and is still to join the order; or it is
 /// refused at once, and nothing changes.
-fn begin<C: Calls, B: Policy>(
+fn start_call<C: Calls, B: Policy>(
     running: &mut Running<C, B>,
     p: u8,
     request: Request<'_>,
@@ -44,12 +42,12 @@ fn begin<C: Calls, B: Policy>(
         (call_with request.entry.call request.entry.bytes.now.items)
         running.old running.new result }
 {
-    kernel_steps::begin(running, p, request)
+    kernel_steps::begin_call(running, p, request)
 }
 
 /// A call of process p that has begun and is still to join the order, as far as it comes at its
 /// event.
-fn run<C: Calls, B: Policy, D: Disk>(
+fn run_call<C: Calls, B: Policy, D: Disk>(
     running: &mut Running<C, B>,
     p: u8,
     disk: &mut D,
@@ -58,8 +56,8 @@ fn run<C: Calls, B: Policy, D: Disk>(
     requires { CanRun C.Meaning.meaning (joined_in p running.old) (D.seen disk.old) p }
     ensures { RefinesAndKeeps C.Meaning.meaning
         (λ r. placed_last C.Meaning.meaning p (placed_settled C.Meaning.meaning r))
-        (moment (joined_in p running.old) trace.old.notes (D.seen disk.old))
-        (moment running.new trace.new.notes (D.seen disk.new)) }
+        (kernel_moment (joined_in p running.old) trace.old.notes (D.seen disk.old))
+        (kernel_moment running.new trace.new.notes (D.seen disk.new)) }
 {
     settle_begun(running, p, disk, trace);
     say_last(running, p, &mut trace.notes);
@@ -77,8 +75,8 @@ fn system<C: Calls, B: Policy, D: Disk>(
     ensures { RefinesAndKeeps C.Meaning.meaning
         (placed_event_on C.Meaning.meaning request.entry.number
         (Sys p (call_with request.entry.call request.entry.bytes.now.items)))
-        (moment running.old trace.old.notes (D.seen disk.old))
-        (moment running.new trace.new.notes (D.seen disk.new)) }
+        (kernel_moment running.old trace.old.notes (D.seen disk.old))
+        (kernel_moment running.new trace.new.notes (D.seen disk.new)) }
 {
     let number = request.number;
     if !running.store.living(p) {
@@ -91,9 +89,9 @@ fn system<C: Calls, B: Policy, D: Disk>(
             .notes
             .push(BareNote::Refused(number, Refusal::Busy(busy)));
     }
-    match begin(running, p as u8, request) {
+    match start_call(running, p as u8, request) {
         Err(refusal) => trace.notes.push(BareNote::Refused(number, refusal)),
-        Ok(()) => run(running, p as u8, disk, trace),
+        Ok(()) => run_call(running, p as u8, disk, trace),
     }
 }
 
@@ -112,8 +110,8 @@ fn stepped<C: Calls, B: Policy, D: Disk>(
     requires { IsSoundOn C.Meaning.meaning running.old (D.seen disk.old) }
     ensures { RunsFromRest C.Meaning.meaning
         (placed_event_on C.Meaning.meaning number (Step p n))
-        (moment running.old trace.old.notes (D.seen disk.old))
-        (moment running.new trace.new.notes (D.seen disk.new)) }
+        (kernel_moment running.old trace.old.notes (D.seen disk.old))
+        (kernel_moment running.new trace.new.notes (D.seen disk.new)) }
 {
     if !running.store.living(p) {
         return trace

@@ -12,9 +12,8 @@ ghost use Rattle.kernel_core.specs.declared.images.ImageRefusal.TheVariants.{Unl
 ghost use Rattle.kernel_core.specs.AddedImages.{slot_refused, has_memory, refusal_said, image_said, ImageIsAdded};
 
 use crate::kernel::Kernel;
-use call_pieces::Calls;
+use call_pieces::{Calls, Policy};
 use graft_loader::{Keys, LoadFault, load};
-use graft_points::Policy;
 use std::alloc::Global;
 
 /// The last slot of the table of images.

@@ -7,16 +7,16 @@ ghost use Rattle.kernel_model.specs.Bare.{event_with};
 ghost use Rattle.kernel_model.specs.Kernel.{Kernel as Abstract};
 ghost use Rattle.kernel_model.specs.Opening.{opening_policy};
 ghost use Rattle.kernel_model.specs.RawRows.{raw_rows};
-ghost use Rattle.kernel_model.specs.Session as session;
+ghost use Rattle.kernel_model.specs.ImageLines as image_lines;
 ghost use Rattle.kernel_model.specs.Sound.{IsAtRest};
-ghost use Rattle.graft_points.specs.Shelf.{IsShelf, pol_of, first_choice};
-ghost use Rattle.kernel_state.specs.Stores.{world_of_store};
+ghost use Rattle.call_pieces.specs.Shelf.{IsShelf, pol_of, first_choice};
+ghost use Rattle.call_pieces.specs.Stores.{world_of_store};
 ghost use Rattle.placed_laws.specs.Placed.{PlacedCall};
 ghost use Rattle.placed_laws.specs.PlacedRows.{placed_rows};
 ghost use Rattle.placed_laws.specs.Stands.{StandsFor};
 ghost use Rattle.running_kernel.specs.Sound.{IsSound};
 ghost use Rattle.running_kernel.specs.Views.{placed_of, IsRunning};
-ghost use Rattle.undo_laws.specs.Undone.{UndoesToCommitted};
+ghost use Rattle.placed_laws.specs.Undone.{UndoesToCommitted};
 ghost use Rattle.kernel_core.specs.EventRefines.{EventRefines, IsKernel};
 ghost use Rattle.kernel_core.specs.PlacedSections.{row_found, row_if_found, IsRow, TakesRow};
 ghost use Rattle.kernel_core.specs.Standing.{IsBlank, Booted};
@@ -24,19 +24,14 @@ ghost use Rattle.kernel_core.specs.Standing.{IsBlank, Booted};
 use crate::events::event;
 use crate::placed_rows::{self, FoundRow, RowPlace};
 use arrayvec::ArrayVec;
-use call_pieces::Calls;
-use disk_log::DiskLog;
+use call_pieces::{
+    Calls, Directory, Disk, DiskLog, Policy, Ram, Segments, Setup, Shelf, Store, read_directory,
+};
 use graft_loader::{Images, Loaded};
-use graft_points::{Policy, Shelf};
 use kernel_model::{BLOCK_BYTES, BareEvent, NoMemory, RawRow};
-use kernel_state::{Setup, Store};
 use kernel_steps::Trace;
-use mem_disk::{Directory, read_directory};
-use ram_space::Ram;
 use running_kernel::Running;
-use segments::Segments;
 use std::alloc::Global;
-use vino_base::Disk;
 
 /// How many segments can be kept: one for each point of each process.
 const KEPT_SEGMENTS: usize = 256;
@@ -54,7 +49,7 @@ pub struct Kernel<C: Calls, B: Policy> {
 #[derive(Clone, Copy)]
 pub enum BootNote {
     /// How many frames the cache has, blocks the disk, and usable files the directory.
-    Up(u8, u32, u8),
+    Up { frames: u8, blocks: u32, files: u8 },
     /// The directory couldn't be read, and no file is usable.
     Fault,
 }
@@ -105,7 +100,11 @@ impl<C: Calls, B: Policy> Kernel<C, B> {
                 let directory = read_directory(disk.block(), size);
                 let files = directory.count();
                 self.running.restart(setup, size, directory);
-                BootNote::Up(setup.frames, size, files)
+                BootNote::Up {
+                    frames: setup.frames,
+                    blocks: size,
+                    files,
+                }
             }
             Err(_) => {
                 self.running.restart(setup, size, Directory::empty());
@@ -131,10 +130,10 @@ impl<C: Calls, B: Policy> Kernel<C, B> {
         ensures stands { (k : Abstract) →
             StandsFor C.Meaning.meaning (placed_of self.old.running) k →
             StandsFor C.Meaning.meaning (placed_of self.new.running)
-            (session.add_image slot image k) }
+            (image_lines.add_image slot image k) }
         ensures rests { (k : Abstract) → StandsFor C.Meaning.meaning
             (placed_of self.old.running) k → IsAtRest C.Meaning.meaning k →
-            IsAtRest C.Meaning.meaning (session.add_image slot image k) }
+            IsAtRest C.Meaning.meaning (image_lines.add_image slot image k) }
         ensures sound { IsSound C.Meaning.meaning self.new.running }
         ensures changed { let x = self.old.running in self.new ≡ record self.old {
           running = record x { images = slice_set x.images slot (Some image) };

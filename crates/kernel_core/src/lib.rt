@@ -15,8 +15,8 @@ mod stepping;
 mod stretch;
 mod ticks;
 
+pub use call_pieces::Setup;
 pub use images::ImageRefusal;
 pub use kernel::{BootNote, Kernel};
-pub use kernel_state::Setup;
 pub use kernel_steps::{Notes, Trace};
 pub use placed_rows::{FoundRow, RowPlace, Section};

@@ -7,8 +7,7 @@ ghost use Rattle.running_kernel.specs.Sound.{HasProcess};
 ghost use Rattle.running_kernel.specs.Views.{placed_of};
 
 use crate::kernel::Kernel;
-use call_pieces::Calls;
-use graft_points::Policy;
+use call_pieces::{Calls, Policy};
 
 impl<C: Calls, B: Policy> Kernel<C, B> {
     /// Register i of the innermost level of process p's call, if that is in a graft.

@@ -9,8 +9,7 @@ ghost use Rattle.kernel_core.specs.PlacedSections.{most_at, most_left, places, r
 ghost use Rattle.kernel_core.specs.PlacedSections.{row_if_found, row_passed, rows_at, rows_left};
 ghost use Rattle.kernel_core.specs.PlacedSections.{sections, IsPassed, IsRow, TakesRow};
 
-use call_pieces::Calls;
-use graft_points::Policy;
+use call_pieces::{Calls, Policy};
 use kernel_model::RawRow;
 use running_kernel::Running;
 

@@ -1,21 +1,19 @@
 //! Steps until all calls are blocked.
 
 ghost use Rattle.std.specs.Prelude.{◌≡◌, List, IfSome, IfNone};
-ghost use Rattle.vino_base.specs.Disks.{DiskSeen};
-ghost use Rattle.kernel_model.specs.declared.Note.{Note as Told};
+ghost use Rattle.call_pieces.specs.Disks.{DiskSeen};
+ghost use Rattle.kernel_model.specs.declared.Note.{Note};
 ghost use Rattle.placed_laws.specs.PlacedSteps.{placed_first_free};
 ghost use Rattle.placed_laws.specs.PlacedEvents.{placed_rested, placed_settle, placed_settled};
-ghost use Rattle.kernel_steps.specs.Moments.{moment};
+ghost use Rattle.kernel_steps.specs.Moments.{kernel_moment};
 ghost use Rattle.running_kernel.specs.Sound.{IsSound};
 ghost use Rattle.running_kernel.specs.Views.{placed_of};
 ghost use Rattle.running_kernel.specs.Idle.{IsIdle, joined_in};
 ghost use Rattle.kernel_steps.specs.Runs.{CanRun, IsSoundOn, RefinesAndKeeps};
 
-use call_pieces::Calls;
-use graft_points::Policy;
+use call_pieces::{Calls, Disk, Policy};
 use kernel_steps::{Trace, piece_alone, step};
 use running_kernel::{Running, Waiting};
-use vino_base::Disk;
 
 /// The most steps that can be taken (`kernel_laws::rest`).
 const STEPS: u16 = 256;
@@ -23,9 +21,9 @@ const STEPS: u16 = 256;
 /// The order is told its blockers.
 fn rest<C: Calls, B: Policy>(running: &mut Running<C, B>)
     requires { IsSound C.Meaning.meaning running.old }
-    ensures went { (kept : List Told) (d : DiskSeen) →
+    ensures went { (kept : List Note) (d : DiskSeen) →
         RefinesAndKeeps C.Meaning.meaning (placed_rested C.Meaning.meaning)
-        (moment running.old kept d) (moment running.new kept d) }
+        (kernel_moment running.old kept d) (kernel_moment running.new kept d) }
 {
     running.rest();
 }
@@ -37,9 +35,9 @@ fn next_or_rest<C: Calls, B: Policy>(running: &mut Running<C, B>) -> Option<u8>
     ensures next { let x = placed_of running.old in
         result ≡ placed_first_free C.Meaning.meaning x x.order }
     ensures kept { IfSome result (λ _. running.new ≡ running.old) }
-    ensures went { IfNone result ((kept : List Told) (d : DiskSeen) →
+    ensures went { IfNone result ((kept : List Note) (d : DiskSeen) →
         RefinesAndKeeps C.Meaning.meaning (placed_rested C.Meaning.meaning)
-        (moment running.old kept d) (moment running.new kept d)) }
+        (kernel_moment running.old kept d) (kernel_moment running.new kept d)) }
 {
     match running.next_or_rest() {
         Some(p) => Some(p),
@@ -58,8 +56,8 @@ fn settle<C: Calls, B: Policy, D: Disk>(
 )
     requires { IsSoundOn C.Meaning.meaning running.old (D.seen disk.old) }
     ensures { RefinesAndKeeps C.Meaning.meaning (placed_settle C.Meaning.meaning turns)
-        (moment running.old trace.old.notes (D.seen disk.old))
-        (moment running.new trace.new.notes (D.seen disk.new)) }
+        (kernel_moment running.old trace.old.notes (D.seen disk.old))
+        (kernel_moment running.new trace.new.notes (D.seen disk.new)) }
 {
     if turns == 0 {
         return rest(running);
@@ -84,8 +82,8 @@ fn settle_joined<C: Calls, B: Policy, D: Disk>(
 )
     requires { CanRun C.Meaning.meaning (joined_in p running.old) (D.seen disk.old) p }
     ensures { RefinesAndKeeps C.Meaning.meaning (placed_settle C.Meaning.meaning turns)
-        (moment (joined_in p running.old) trace.old.notes (D.seen disk.old))
-        (moment running.new trace.new.notes (D.seen disk.new)) }
+        (kernel_moment (joined_in p running.old) trace.old.notes (D.seen disk.old))
+        (kernel_moment running.new trace.new.notes (D.seen disk.new)) }
 {
     running.order.push(Waiting::joined(p));
     settle(running, turns, disk, trace);
@@ -103,8 +101,8 @@ fn settle_alone<C: Calls, B: Policy, D: Disk>(
     requires at { CanRun C.Meaning.meaning (joined_in p running.old) (D.seen disk.old) p }
     requires idle { IsIdle running.old }
     ensures { RefinesAndKeeps C.Meaning.meaning (placed_settle C.Meaning.meaning turns)
-        (moment (joined_in p running.old) trace.old.notes (D.seen disk.old))
-        (moment running.new trace.new.notes (D.seen disk.new)) }
+        (kernel_moment (joined_in p running.old) trace.old.notes (D.seen disk.old))
+        (kernel_moment running.new trace.new.notes (D.seen disk.new)) }
 {
     if turns == 0 {
         return settle_joined(running, p, turns, disk, trace);
@@ -126,8 +124,8 @@ pub(crate) fn settle_begun<C: Calls, B: Policy, D: Disk>(
 )
     requires { CanRun C.Meaning.meaning (joined_in p running.old) (D.seen disk.old) p }
     ensures { RefinesAndKeeps C.Meaning.meaning (placed_settled C.Meaning.meaning)
-        (moment (joined_in p running.old) trace.old.notes (D.seen disk.old))
-        (moment running.new trace.new.notes (D.seen disk.new)) }
+        (kernel_moment (joined_in p running.old) trace.old.notes (D.seen disk.old))
+        (kernel_moment running.new trace.new.notes (D.seen disk.new)) }
 {
     if running.is_idle() {
         return settle_alone(running, p, STEPS, disk, trace);
@@ -143,8 +141,8 @@ pub(crate) fn settle_all<C: Calls, B: Policy, D: Disk>(
 )
     requires { IsSoundOn C.Meaning.meaning running.old (D.seen disk.old) }
     ensures { RefinesAndKeeps C.Meaning.meaning (placed_settled C.Meaning.meaning)
-        (moment running.old trace.old.notes (D.seen disk.old))
-        (moment running.new trace.new.notes (D.seen disk.new)) }
+        (kernel_moment running.old trace.old.notes (D.seen disk.old))
+        (kernel_moment running.new trace.new.notes (D.seen disk.new)) }
 {
     settle(running, STEPS, disk, trace);
 }

@@ -1,13 +1,13 @@
 //! Instructions of a call.
 
 ghost use Rattle.std.specs.Prelude.{◌≡◌, ◌<◌, ◌≤◌, ◌+◌, ◌^◌, ◌-◌, List, false, true, cond, is_some};
-ghost use Rattle.vino_base.specs.Disks.{DiskSeen};
-ghost use Rattle.kernel_model.specs.declared.Note.{Note as Told};
+ghost use Rattle.call_pieces.specs.Disks.{DiskSeen};
+ghost use Rattle.kernel_model.specs.declared.Note.{Note};
 ghost use Rattle.kernel_model.specs.Events.{in_order};
 ghost use Rattle.placed_laws.specs.Placed.{has_some, placed_blocker};
 ghost use Rattle.placed_laws.specs.PlacedSteps.{placed_joins};
 ghost use Rattle.placed_laws.specs.PlacedEvents.{placed_step_event};
-ghost use Rattle.kernel_steps.specs.Moments.{moment};
+ghost use Rattle.kernel_steps.specs.Moments.{kernel_moment};
 ghost use Rattle.running_kernel.specs.Sound.{IsSoundFor};
 ghost use Rattle.kernel_steps.specs.Runs.{CanRun, RefinesAndKeeps};
 ghost use Rattle.kernel_core.specs.EventParts.{steps_said, taken_up, takes_up, RunsFromRest, RunsToRest};
@@ -16,12 +16,10 @@ ghost use Rattle.running_kernel.specs.Views.{placed_of};
 use crate::last::say_last;
 use crate::settle::settle_all;
 use crate::stretch::stretch;
-use call_pieces::Calls;
-use graft_points::Policy;
+use call_pieces::{Calls, Disk, Policy};
 use kernel_model::BareNote;
 use kernel_steps::{Trace, step_in_graft};
 use running_kernel::Running;
-use vino_base::Disk;
 
 /// Process p's call, which is in a graft, blocked, and not in the order, joins it.
 fn join<C: Calls, B: Policy>(running: &mut Running<C, B>, p: u8)
@@ -29,9 +27,9 @@ fn join<C: Calls, B: Policy>(running: &mut Running<C, B>, p: u8)
     requires level { has_some ((placed_of running.old).levels p) ≡ true }
     requires new { in_order p (placed_of running.old).order ≡ false }
     requires blocked { is_some (placed_blocker C.Meaning.meaning (placed_of running.old) p) ≡ true }
-    ensures went { (kept : List Told) (d : DiskSeen) →
+    ensures went { (kept : List Note) (d : DiskSeen) →
         RefinesAndKeeps C.Meaning.meaning (placed_joins p)
-        (moment running.old kept d) (moment running.new kept d) }
+        (kernel_moment running.old kept d) (kernel_moment running.new kept d) }
 {
     kernel_steps::join(running, p);
 }
@@ -48,8 +46,8 @@ fn take_up<C: Calls, B: Policy, D: Disk>(
     requires { CanRun C.Meaning.meaning running.old (D.seen disk.old) p }
     ensures took { result ≡ takes_up C.Meaning.meaning (placed_of running.old) p }
     ensures went { RunsToRest C.Meaning.meaning (taken_up C.Meaning.meaning p)
-        (moment running.old trace.old.notes (D.seen disk.old))
-        (moment running.new trace.new.notes (D.seen disk.new)) }
+        (kernel_moment running.old trace.old.notes (D.seen disk.old))
+        (kernel_moment running.new trace.new.notes (D.seen disk.new)) }
 {
     if !running.in_graft(p) {
         return false;
@@ -90,8 +88,8 @@ fn steps<C: Calls, B: Policy, D: Disk>(
     requires at { CanRun C.Meaning.meaning running.old (D.seen disk.old) p }
     requires few { n ≤ 65536 }
     ensures { RunsFromRest C.Meaning.meaning (steps_said C.Meaning.meaning number p n 0)
-        (moment running.old trace.old.notes (D.seen disk.old))
-        (moment running.new trace.new.notes (D.seen disk.new)) }
+        (kernel_moment running.old trace.old.notes (D.seen disk.old))
+        (kernel_moment running.new trace.new.notes (D.seen disk.new)) }
 {
     let mut taken = 0;
     let mut going = true;
@@ -119,8 +117,8 @@ pub(crate) fn step_event<C: Calls, B: Policy, D: Disk>(
     requires at { CanRun C.Meaning.meaning running.old (D.seen disk.old) p }
     requires few { n ≤ 65536 }
     ensures { RunsFromRest C.Meaning.meaning (placed_step_event C.Meaning.meaning number p n)
-        (moment running.old trace.old.notes (D.seen disk.old))
-        (moment running.new trace.new.notes (D.seen disk.new)) }
+        (kernel_moment running.old trace.old.notes (D.seen disk.old))
+        (kernel_moment running.new trace.new.notes (D.seen disk.new)) }
 {
     steps(running, number, p, n, disk, trace);
     say_last(running, p, &mut trace.notes);

@@ -6,8 +6,7 @@ ghost use Rattle.kernel_steps.specs.Runs.{KeepsRunning};
 ghost use Rattle.kernel_core.specs.EventParts.{Leads};
 ghost use Rattle.running_kernel.specs.Views.{placed_of};
 
-use call_pieces::Calls;
-use graft_points::Policy;
+use call_pieces::{Calls, Policy};
 use running_kernel::Running;
 
 /// A stretch of process p's call, where it is in a graft and doesn't wait: at most n quiet

@@ -1,28 +1,26 @@
 //! The time-outs of a tick.
 
 ghost use Rattle.std.specs.Prelude.{◌≡◌, ◌<◌, ◌-◌, ◌^◌, false, [], Some, None, option_map};
-ghost use Rattle.plain_rules.specs.QuickPieces.{is_disk_fault};
-ghost use Rattle.vino_base.specs.Disks.{DiskSeen};
+ghost use Rattle.call_pieces.specs.QuickPieces.{is_disk_fault};
+ghost use Rattle.call_pieces.specs.Disks.{DiskSeen};
 ghost use Rattle.kernel_model.specs.declared.Note.TheVariants.{Refused};
 ghost use Rattle.placed_laws.specs.PlacedSteps.{placed_noted, placed_requeue, placed_ticked, with_placed_call};
 ghost use Rattle.placed_laws.specs.PlacedEvents.{placed_actions, placed_entry_action};
 ghost use Rattle.placed_laws.specs.PlacedEvents.{placed_holder, placed_tick_event, placed_waiter};
 ghost use Rattle.running_kernel.specs.Orders.{blocker_of, entry_of};
-ghost use Rattle.kernel_steps.specs.Moments.{moment};
+ghost use Rattle.kernel_steps.specs.Moments.{kernel_moment};
 ghost use Rattle.running_kernel.specs.Sound.{IsSound, IsSoundFor};
 ghost use Rattle.kernel_steps.specs.Runs.{CanRun, IsSoundOn, RefinesAndKeeps};
 ghost use Rattle.kernel_core.specs.EventParts.{RefinesAndTicks};
 ghost use Rattle.running_kernel.specs.Views.{placed_of};
 
 use crate::settle::settle_all;
-use call_pieces::Calls;
-use graft_points::Policy;
+use call_pieces::{Calls, Disk, Policy};
 use kernel_model::{BareNote, Cause, Refusal};
 use kernel_steps::{Notes, Trace, drop_level, end, tick};
 use running_kernel::{Blocking, Running, Waiting};
-use vino_base::Disk;
 
-/// The most actions of a tick (`history_laws::ticks`).
+/// The most actions of a tick (`graft_laws::ticks`).
 const ACTIONS: u16 = 288;
 
 /// Process p's call of this number, which is in no graft, is refused.
@@ -40,7 +38,7 @@ fn refuse<C: Calls, B: Policy>(
     ensures went { (d : DiskSeen) →
         RefinesAndKeeps C.Meaning.meaning
         (λ r. placed_requeue p (placed_noted (Refused number why) (with_placed_call p None r)))
-        (moment running.old notes.old d) (moment running.new notes.new d) }
+        (kernel_moment running.old notes.old d) (kernel_moment running.new notes.new d) }
 {
     end(running, p, BareNote::Refused(number, why), notes);
 }
@@ -56,8 +54,8 @@ fn time_out_waiter<C: Calls, B: Policy, D: Disk>(
     requires { CanRun C.Meaning.meaning running.old (D.seen disk.old) p }
     ensures { RefinesAndKeeps C.Meaning.meaning
         (λ r. placed_waiter C.Meaning.meaning p (blocker_of found) (r.placed.call p) r)
-        (moment running.old trace.old.notes (D.seen disk.old))
-        (moment running.new trace.new.notes (D.seen disk.new)) }
+        (kernel_moment running.old trace.old.notes (D.seen disk.old))
+        (kernel_moment running.new trace.new.notes (D.seen disk.new)) }
 {
     let Some(number) = running.call_number(p) else {
         return;
@@ -83,8 +81,8 @@ fn time_out_holder<C: Calls, B: Policy, D: Disk>(
     requires { CanRun C.Meaning.meaning running.old (D.seen disk.old) p }
     ensures { RefinesAndKeeps C.Meaning.meaning
         (placed_holder C.Meaning.meaning p (blocker_of found))
-        (moment running.old trace.old.notes (D.seen disk.old))
-        (moment running.new trace.new.notes (D.seen disk.new)) }
+        (kernel_moment running.old trace.old.notes (D.seen disk.old))
+        (kernel_moment running.new trace.new.notes (D.seen disk.new)) }
 {
     let Some(level) = running.level_in_the_way(p, found.object, found.holder) else {
         return;
@@ -104,8 +102,8 @@ fn act<C: Calls, B: Policy, D: Disk>(
     requires on { IsSoundOn C.Meaning.meaning running.old (D.seen disk.old) }
     ensures { RefinesAndKeeps C.Meaning.meaning
         (placed_entry_action C.Meaning.meaning (entry_of waiting) (entry_of waiting).blocker)
-        (moment running.old trace.old.notes (D.seen disk.old))
-        (moment running.new trace.new.notes (D.seen disk.new)) }
+        (kernel_moment running.old trace.old.notes (D.seen disk.old))
+        (kernel_moment running.new trace.new.notes (D.seen disk.new)) }
 {
     let Some(found) = waiting.blocker else {
         return;
@@ -126,8 +124,8 @@ fn actions<C: Calls, B: Policy, D: Disk>(
 )
     requires { IsSoundOn C.Meaning.meaning running.old (D.seen disk.old) }
     ensures { RefinesAndKeeps C.Meaning.meaning (placed_actions C.Meaning.meaning turns)
-        (moment running.old trace.old.notes (D.seen disk.old))
-        (moment running.new trace.new.notes (D.seen disk.new)) }
+        (kernel_moment running.old trace.old.notes (D.seen disk.old))
+        (kernel_moment running.new trace.new.notes (D.seen disk.new)) }
 {
     if turns == 0 {
         return;
@@ -145,7 +143,7 @@ fn raise<C: Calls, B: Policy>(running: &mut Running<C, B>, number: u32, notes: &
     requires clock { running.old.clock < 2 ^ 32 - 1 }
     requires sound { IsSound C.Meaning.meaning running.old }
     ensures ticked { (d : DiskSeen) → RefinesAndTicks C.Meaning.meaning (placed_ticked number)
-        (moment running.old notes.old d) (moment running.new notes.new d) }
+        (kernel_moment running.old notes.old d) (kernel_moment running.new notes.new d) }
 {
     tick(running, number, notes);
 }
@@ -160,8 +158,8 @@ pub(crate) fn tick_event<C: Calls, B: Policy, D: Disk>(
     requires clock { running.old.clock < 2 ^ 32 - 1 }
     requires on { IsSoundOn C.Meaning.meaning running.old (D.seen disk.old) }
     ensures { RefinesAndTicks C.Meaning.meaning (placed_tick_event C.Meaning.meaning number)
-        (moment running.old trace.old.notes (D.seen disk.old))
-        (moment running.new trace.new.notes (D.seen disk.new)) }
+        (kernel_moment running.old trace.old.notes (D.seen disk.old))
+        (kernel_moment running.new trace.new.notes (D.seen disk.new)) }
 {
     raise(running, number, &mut trace.notes);
     actions(running, ACTIONS, disk, trace);

@@ -7,25 +7,21 @@ use Rattle.kernel_model.specs.declared.Kind.{Kind}
 use Rattle.kernel_model.specs.declared.Kind.TheVariants.{Steps, Records, Locks}
 use Rattle.kernel_model.specs.World.{World}
 use Rattle.kernel_model.specs.Objects.{Objects, Accounts, GraftValue, AcctValue, at, at2}
-use Rattle.kernel_model.specs.Charges.{payer_balance, funds, spend, pay, taken_from, charge_account, charge_graft, charge_by, charge, removed, removed_by}
+use Rattle.kernel_model.specs.Charges.{payer_balance, funds, spend, pay, taken_from}
+use Rattle.kernel_model.specs.Charges.{charge_account, charge_graft, charge_by, charge, removed}
+use Rattle.kernel_model.specs.Charges.{removed_by}
 use Rattle.kernel_model.specs.Claims.{LedgersStay}
 use Rattle.kernel_model.specs.Pieces.{less, funded, accounts_funded}
 use Rattle.kernel_model.specs.Sound.{sum_below, graft_balance, ledger, IsSoundStore}
-use Rattle.plain_rules.specs.Ledgers.{sum_same, sum_one, at_here, at_other, less_balance, more_balance, give_ledger, removed_ledger}
+use Rattle.call_laws.specs.Ledgers.{sum_same, sum_one, at_here, at_other, less_balance, row_here}
+use Rattle.call_laws.specs.Ledgers.{more_balance, give_ledger, removed_ledger, row_other}
 use Rattle.kernel_laws.specs.Amounts.{total, GrantStays}
 
 -- ---- a graft and its installer's account
 
--- the changed graft
-graft_here : (p pt : ℕ) (x : Option GraftValue) (f : ℕ → ℕ → Option GraftValue) → at2 p pt x f p pt ≡ x
-graft_here p pt x f = grind (arith, nat_tests)
-
--- another graft of the process
-graft_beside : (p pt pu : ℕ) (x : Option GraftValue) (f : ℕ → ℕ → Option GraftValue) → pu ≢ pt → at2 p pt x f p pu ≡ f p pu
-graft_beside p pt pu x f ne = grind (arith, nat_tests)
-
 -- a graft of another process
-graft_elsewhere : (p pt q pu : ℕ) (x : Option GraftValue) (f : ℕ → ℕ → Option GraftValue) → q ≢ p → at2 p pt x f q pu ≡ f q pu
+graft_elsewhere : (p pt q pu : ℕ) (x : Option GraftValue) (f : ℕ → ℕ → Option GraftValue) → q ≢ p →
+    at2 p pt x f q pu ≡ f q pu
 graft_elsewhere p pt q pu x f ne = grind (arith, nat_tests)
 
 -- what the grafts of a row have
@@ -46,8 +42,8 @@ own_ledger : (a : Accounts) (p pt : ℕ) (x : Option GraftValue) (y : AcctValue)
     ledger (exchanged p pt x y a) j p ≡ ledger a j p
 own_ledger a p pt x y j low kept =
     let one = sum_one 16 pt (λ pu. graft_balance j (at2 p pt x a.graft p pu)) (λ pu. graft_balance j (a.graft p pu)) low
-    (λ i less ne. ap (graft_balance j) (graft_beside p pt i x a.graft ne)) in
-    let here = ap (graft_balance j) (graft_here p pt x a.graft) in
+    (λ i less ne. ap (graft_balance j) (row_other p pt i x a.graft ne)) in
+    let here = ap (graft_balance j) (row_here p pt x a.graft) in
     ap (λ (z : AcctValue). held_in j z + given_to j (at2 p pt x a.graft p)) (at_here p y a.acct) ∙ omega arith
 
 -- another process
@@ -86,9 +82,13 @@ paid_graft Locks Locks x g h = omega arith
 paid_graft _ _ x g h = refl
 
 -- where the graft is known
-charge_found : (a : Accounts) (q pt r : ℕ) (k j : Kind) (g : GraftValue) (billed : Bool) → a.graft q pt ≡ Some g → g.billed ≡ billed →
+charge_found : (a : Accounts) (q pt r : ℕ) (k j : Kind) (g : GraftValue) (billed : Bool) →
+    a.graft q pt ≡ Some g → g.billed ≡ billed →
     pt < 16 → 1 ≤ cond billed ((a.acct q).balance k) (g.balance k) →
-    ledger (elim billed as (λ _. Accounts) [ true ↦ charge_account k q a | false ↦ charge_graft k q pt g a ]) j r ≡ ledger a j r
+    ledger (elim billed as (λ _. Accounts) [
+      | true ↦ charge_account k q a
+      | false ↦ charge_graft k q pt g a
+    ]) j r ≡ ledger a j r
 charge_found a q pt r k j g true e b low enough = elim (cases_eq r q) [
   | inl same ↦ subst (λ i. ledger (charge_account k q a) j i ≡ ledger a j i) (sym same)
       (ap (λ (z : AcctValue). held_in j z + given_to j (a.graft q)) (at_here q (pay k (a.acct q)) a.acct)
@@ -106,7 +106,8 @@ charge_ledger_by a q pt r k j None e low enough = refl
 charge_ledger_by a q pt r k j (Some g) e low enough = charge_found a q pt r k j g g.billed e refl low enough
 
 -- one of a kind is charged
-pub charge_ledger : (a : Accounts) (q pt r : ℕ) (k j : Kind) → pt < 16 → 1 ≤ funds a q pt k → ledger (charge k q pt a) j r ≡ ledger a j r
+pub charge_ledger : (a : Accounts) (q pt r : ℕ) (k j : Kind) → pt < 16 → 1 ≤ funds a q pt k →
+    ledger (charge k q pt a) j r ≡ ledger a j r
 charge_ledger a q pt r k j low enough = charge_ledger_by a q pt r k j (a.graft q pt) refl low enough
 
 -- charging what the payer has, and removing a graft, leave every ledger
@@ -120,7 +121,8 @@ same_total : (a b : Accounts) (j : Kind) → ((r : ℕ) → ledger a j r ≡ led
 same_total a b j h = sum_same 16 (ledger a j) (ledger b j) (λ r low. h r)
 
 -- a charge, by whether a graft stands
-pub charge_total : (v : World) (s : Objects) (q pt : ℕ) (k j : Kind) (g : Option GraftValue) → s.accounts.graft q pt ≡ g → IsSoundStore v s →
+pub charge_total : (v : World) (s : Objects) (q pt : ℕ) (k j : Kind) (g : Option GraftValue) →
+    s.accounts.graft q pt ≡ g → IsSoundStore v s →
     1 ≤ payer_balance k (s.accounts.acct q) g → total (charge_by k q pt g s.accounts) j ≡ total s.accounts j
 charge_total v s q pt k j None e h enough = refl
 charge_total v s q pt k j (Some g) e h enough =
@@ -128,7 +130,8 @@ charge_total v s q pt k j (Some g) e h enough =
     (λ r. charge_ledger_by s.accounts q pt r k j (Some g) e (h.grafts q pt g e).0 enough)
 
 -- a graft taken out, by whether one stands
-remove_total : (v : World) (s : Objects) (q pt : ℕ) (j : Kind) (g : Option GraftValue) → s.accounts.graft q pt ≡ g → IsSoundStore v s →
+remove_total : (v : World) (s : Objects) (q pt : ℕ) (j : Kind) (g : Option GraftValue) →
+    s.accounts.graft q pt ≡ g → IsSoundStore v s →
     total (removed q pt s.accounts) j ≡ total s.accounts j
 remove_total v s q pt j None e h = ap (λ x. total (removed_by q pt x s.accounts) j) e
 remove_total v s q pt j (Some g) e h =
@@ -144,11 +147,13 @@ fund_account k j n x g h =
 
 -- an amount that goes to a graft
 fund_total : (v : World) (s : Objects) (p pt : ℕ) (g : GraftValue) (k : Kind) (n : ℕ) (j : Kind) → IsSoundStore v s →
-    s.accounts.graft p pt ≡ Some g → n ≤ (s.accounts.acct p).balance k → total (accounts_funded p pt k n g s.accounts) j ≡ total s.accounts j
+    s.accounts.graft p pt ≡ Some g → n ≤ (s.accounts.acct p).balance k →
+    total (accounts_funded p pt k n g s.accounts) j ≡ total s.accounts j
 fund_total v s p pt g k n j h e enough =
     same_total (accounts_funded p pt k n g s.accounts) s.accounts j
     (λ r. exchange_stays s.accounts p pt r (Some (funded k n g)) (less k n (s.accounts.acct p)) j (h.grafts p pt g e).0
-    (fund_account k j n (s.accounts.acct p) g enough ∙ ap (λ m. held_in j (s.accounts.acct p) + m) (sym (ap (graft_balance j) e))))
+    (fund_account k j n (s.accounts.acct p) g enough
+    ∙ ap (λ m. held_in j (s.accounts.acct p) + m) (sym (ap (graft_balance j) e))))
 
 -- the total of each kind is the grant, and stays it
 pub grant_stays : GrantStays

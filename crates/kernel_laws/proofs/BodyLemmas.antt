@@ -25,7 +25,8 @@ answer_whole answer [] some = absurd (none some)
 answer_whole answer (l ∷ ls) some = level_answer_whole answer l ls
 
 -- an answer of levels is right where its registers are
-pub answer_right : (s : Objects) (ask : Option Point) (answer : List ℕ) (ls : List Level) → IsRightAnswer s ask (Some answer) →
+pub answer_right : (s : Objects) (ask : Option Point) (answer : List ℕ) (ls : List Level) →
+    IsRightAnswer s ask (Some answer) →
     IsRightAnswer s ask (registers_of (Some (answer_of answer ls)))
 answer_right s ask answer [] h = h
 answer_right s ask answer (l ∷ ls) h = h
@@ -36,7 +37,8 @@ AnswersWholly ls (Micro.Completed answer) = HasWholeBody (Some (answer_of answer
 AnswersWholly ls said = ⊤
 
 -- an instruction answers wholly
-pub micro_wholly : (v : World) (images : ImageTable) (p : ℕ) (c : Config) → AnswersWholly c.levels (micro v images p c).said
+pub micro_wholly : (v : World) (images : ImageTable) (p : ℕ) (c : Config) →
+    AnswersWholly c.levels (micro v images p c).said
 micro_wholly v images p c = on_levels c.now c.levels
   where
     by_said : (l : Level) (ls : List Level) (said : Micro) → AnswersWholly (l ∷ ls) said

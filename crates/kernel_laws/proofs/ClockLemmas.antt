@@ -1,5 +1,6 @@
 -- Proofs of the laws of the clock.
-use Rattle.std.specs.Prelude.{◌≡◌, ℕ, zero, suc, Bool, true, false, not, ◌&&◌, nat_le, List, [], ◌∷◌, Option, Some, None, Result, Ok, Err}
+use Rattle.std.specs.Prelude.{◌≡◌, ℕ, zero, suc, Bool, true, false, not, ◌&&◌, nat_le, List, []}
+use Rattle.std.specs.Prelude.{◌∷◌, Option, Some, None, Result, Ok, Err}
 use Rattle.std.proofs.Common.{refl, ◌∙◌}
 use Rattle.kernel_model.specs.declared.Event.{Event}
 use Rattle.kernel_model.specs.declared.Event.TheVariants.{Tick, Step, Sys}
@@ -17,11 +18,17 @@ use Rattle.kernel_model.specs.Meaning.{Meaning, Stage}
 use Rattle.kernel_model.specs.Levels.{Level, Outcome, drop_level}
 use Rattle.kernel_model.specs.GraftStep.{micro}
 use Rattle.kernel_model.specs.History.{Mark, Trace}
-use Rattle.kernel_model.specs.Kernel.{Call, Blocker, Entry, Run, joins, noted, with_call, has_level}
+use Rattle.kernel_model.specs.Kernel.{Call, Blocker, Waiter, Run, joins, noted, with_call, has_level}
 use Rattle.kernel_model.specs.Blocking.{levels_of, blocker, trace_of, needs, holds}
 use Rattle.kernel_model.specs.Locks.{outermost_holding}
-use Rattle.kernel_model.specs.Settle.{piece_at, piece_step, after_drop, after_outcome, graft_step, marked_step, call_step, step, first_free, rested, settle, settled}
-use Rattle.kernel_model.specs.Events.{MOST_STEPS, in_order, waits_note, graft_note, expired, ticked, last_note, last, begun, sys_event, steps, step_event, drop_at, drop_marked, drop_call, wanted, times_out, waiter_action, innermost, action, entry_action, actions, event_on}
+use Rattle.kernel_model.specs.Settle.{piece_at, piece_step, after_outcome, graft_step}
+use Rattle.kernel_model.specs.Settle.{marked_step, call_step, step, first_free, rested, settle}
+use Rattle.kernel_model.specs.Settle.{settled}
+use Rattle.kernel_model.specs.Events.{MOST_STEPS, in_order, waits_note, graft_note, expired}
+use Rattle.kernel_model.specs.Events.{ticked, last_note, last, begun, sys_event, steps, step_event}
+use Rattle.kernel_model.specs.Events.{drop_at, drop_marked, drop_call, wanted, times_out}
+use Rattle.kernel_model.specs.Events.{waiter_action, innermost, action, entry_action, actions}
+use Rattle.kernel_model.specs.Events.{event_on}
 use Rattle.kernel_laws.specs.Clock.{is_tick, TicksRaiseTheClock, OthersLeaveTheClock}
 
 -- the clock of a run
@@ -39,18 +46,16 @@ module _ (m : Meaning) where
   piece_clock p c None r = refl
   piece_clock p c (Some a) r = piece_at_clock p c (r.kernel.objects.accounts.graft a.installer a.point) r
 
-  drop_clock : (p : ℕ) (c : Call) (t : Trace) (ks : List Mark) (o : Outcome) (d : ℕ) (r : Run) → clock_of (after_drop m p c t ks o d r) ≡ clock_of r
-  drop_clock p c t ks o zero r = refl
-  drop_clock p c t ks o (suc d) r = refl
-
-  outcome_clock : (p : ℕ) (c : Call) (t : Trace) (ks : List Mark) (o : Outcome) (said : Micro) (r : Run) → clock_of (after_outcome m p c t ks o said r) ≡ clock_of r
+  outcome_clock : (p : ℕ) (c : Call) (t : Trace) (ks : List Mark) (o : Outcome) (said : Micro)
+      (r : Run) → clock_of (after_outcome m p c t ks o said r) ≡ clock_of r
   outcome_clock p c t ks o Micro.Went r = refl
   outcome_clock p c t ks o (Micro.Blocked object holder by_user) r = refl
   outcome_clock p c t ks o (Micro.Completed answer) r = refl
   outcome_clock p c t ks o (Micro.Dropped zero q pt cause) r = refl
   outcome_clock p c t ks o (Micro.Dropped (suc d) q pt cause) r = refl
 
-  graft_clock : (p : ℕ) (c : Call) (ks : List Mark) (t : Option Trace) (r : Run) → clock_of (graft_step m p c ks t r) ≡ clock_of r
+  graft_clock : (p : ℕ) (c : Call) (ks : List Mark) (t : Option Trace) (r : Run) →
+      clock_of (graft_step m p c ks t r) ≡ clock_of r
   graft_clock p c ks None r = refl
   graft_clock p c ks (Some t) r =
       let o = micro r.kernel.world r.kernel.images p t.config in outcome_clock p c t ks o o.said r
@@ -95,7 +100,8 @@ module _ (m : Meaning) where
 
   last_note_clock : (p : ℕ) (c : Option Call) (r : Run) → clock_of (last_note m p c r) ≡ clock_of r
   last_note_clock p None r = refl
-  last_note_clock p (Some c) r = stands_clock (in_order p r.kernel.order) c (blocker m r.kernel p) (levels_of m r.kernel p) r
+  last_note_clock p (Some c) r =
+      stands_clock (in_order p r.kernel.order) c (blocker m r.kernel p) (levels_of m r.kernel p) r
 
   last_clock : (p : ℕ) (r : Run) → clock_of (last m p r) ≡ clock_of r
   last_clock p r = last_note_clock p (r.kernel.call p) r
@@ -104,9 +110,12 @@ module _ (m : Meaning) where
 
   begun_clock : (number p : ℕ) (t : Result Stage Refusal) (r : Run) → clock_of (begun m number p t r) ≡ clock_of r
   begun_clock number p (Err refusal) r = refl
-  begun_clock number p (Ok t) r = settle_clock 256 (joins p (with_call p (Some (record { number = number; stage = t; marks = None })) r))
+  begun_clock number p (Ok t) r =
+      settle_clock 256
+      (joins p (with_call p (Some (record { number = number; stage = t; marks = None })) r))
 
-  sys_clock : (number p : ℕ) (call : SysCall) (c : Option Call) (r : Run) → clock_of (sys_event m number p call c r) ≡ clock_of r
+  sys_clock : (number p : ℕ) (call : SysCall) (c : Option Call) (r : Run) →
+      clock_of (sys_event m number p call c r) ≡ clock_of r
   sys_clock number p call (Some c) r = refl
   sys_clock number p call None r =
       let t = m.early r.kernel.world r.kernel.images p call in
@@ -115,7 +124,9 @@ module _ (m : Meaning) where
   -- ---- instructions
 
   -- an instruction that is blocked, or done
-  steps_by : (p n taken : ℕ) (r : Run) → ((k : ℕ) (q : Run) → clock_of (steps m p n k q).1 ≡ clock_of q) → (b : Bool) (w : Option Blocker) →
+  steps_by : (p n taken : ℕ) (r : Run) →
+      ((k : ℕ) (q : Run) → clock_of (steps m p n k q).1 ≡ clock_of q) →
+      (b : Bool) (w : Option Blocker) →
       clock_of (elim b as (λ _. ℕ × Run) [
         | false ↦ (taken, r)
         | true ↦ elim w as (λ _. ℕ × Run) [
@@ -125,12 +136,14 @@ module _ (m : Meaning) where
       ]).1 ≡ clock_of r
   steps_by p n taken r h false w = refl
   steps_by p n taken r h true (Some x) = settle_clock 256 (joins p r)
-  steps_by p n taken r h true None = h (suc taken) (settled m (step m p r)) ∙ settle_clock 256 (step m p r) ∙ step_clock p r
+  steps_by p n taken r h true None =
+      h (suc taken) (settled m (step m p r)) ∙ settle_clock 256 (step m p r) ∙ step_clock p r
 
   steps_clock : (p n taken : ℕ) (r : Run) → clock_of (steps m p n taken r).1 ≡ clock_of r
   steps_clock p zero taken r = refl
   steps_clock p (suc n) taken r =
-      steps_by p n taken r (λ k q. steps_clock p n k q) (has_level (r.kernel.call p) && not (in_order p r.kernel.order)) (blocker m r.kernel p)
+      steps_by p n taken r (λ k q. steps_clock p n k q)
+      (has_level (r.kernel.call p) && not (in_order p r.kernel.order)) (blocker m r.kernel p)
 
   step_event_clock : (number p n : ℕ) (r : Run) → clock_of (step_event m number p n r) ≡ clock_of r
   step_event_clock number p n r =
@@ -138,18 +151,21 @@ module _ (m : Meaning) where
 
   -- ---- time-outs
 
-  drop_at_clock : (p : ℕ) (c : Call) (ks : List Mark) (t : Trace) (d : Option ℕ) (cause : Cause) (r : Run) → clock_of (drop_at m p c ks t d cause r) ≡ clock_of r
+  drop_at_clock : (p : ℕ) (c : Call) (ks : List Mark) (t : Trace) (d : Option ℕ) (cause : Cause)
+      (r : Run) → clock_of (drop_at m p c ks t d cause r) ≡ clock_of r
   drop_at_clock p c ks t None cause r = refl
   drop_at_clock p c ks t (Some d) cause r =
       let o = drop_level r.kernel.world t.config.now t.config.levels d cause in outcome_clock p c t ks o o.said r
 
-  drop_marked_clock : (p : ℕ) (c : Call) (ks : Option (List Mark)) (t : Option Trace) (d : Option ℕ) (cause : Cause) (r : Run) →
+  drop_marked_clock : (p : ℕ) (c : Call) (ks : Option (List Mark)) (t : Option Trace) (d : Option ℕ)
+      (cause : Cause) (r : Run) →
       clock_of (drop_marked m p c ks t d cause r) ≡ clock_of r
   drop_marked_clock p c (Some ks) (Some t) d cause r = drop_at_clock p c ks t d cause r
   drop_marked_clock p c None t d cause r = refl
   drop_marked_clock p c (Some ks) None d cause r = refl
 
-  drop_call_clock : (p : ℕ) (c : Option Call) (d : Option ℕ) (cause : Cause) (r : Run) → clock_of (drop_call m p c d cause r) ≡ clock_of r
+  drop_call_clock : (p : ℕ) (c : Option Call) (d : Option ℕ) (cause : Cause) (r : Run) →
+      clock_of (drop_call m p c d cause r) ≡ clock_of r
   drop_call_clock p None d cause r = refl
   drop_call_clock p (Some c) d cause r = drop_marked_clock p c c.marks (trace_of m r.kernel p (Some c)) d cause r
 
@@ -159,7 +175,8 @@ module _ (m : Meaning) where
         | Some x ↦ drop_call m p (Some c) (innermost (levels_of m r.kernel p)) (TimeOut b.object b.holder) r
       ]) ≡ clock_of r
   waiter_by p b c None r = refl
-  waiter_by p b c (Some ks) r = drop_call_clock p (Some c) (innermost (levels_of m r.kernel p)) (TimeOut b.object b.holder) r
+  waiter_by p b c (Some ks) r =
+      drop_call_clock p (Some c) (innermost (levels_of m r.kernel p)) (TimeOut b.object b.holder) r
 
   waiter_clock : (p : ℕ) (b : Blocker) (c : Option Call) (r : Run) → clock_of (waiter_action m p b c r) ≡ clock_of r
   waiter_clock p b None r = refl
@@ -169,14 +186,18 @@ module _ (m : Meaning) where
   action_clock p b None r = waiter_clock p b (r.kernel.call p) r
   action_clock p b (Some n) r =
       drop_call_clock b.holder (r.kernel.call b.holder)
-      (outermost_holding b.object (wanted b.object (needs m r.kernel p)) (holds m r.kernel b.holder)) (TimeOut b.object p) r
+      (outermost_holding b.object (wanted b.object (needs m r.kernel p))
+      (holds m r.kernel b.holder)) (TimeOut b.object p) r
 
-  entry_clock : (e : Entry) (b : Option Blocker) (r : Run) → clock_of (entry_action m e b r) ≡ clock_of r
+  entry_clock : (e : Waiter) (b : Option Blocker) (r : Run) → clock_of (entry_action m e b r) ≡ clock_of r
   entry_clock e None r = refl
   entry_clock e (Some b) r = action_clock e.process b b.call r
 
-  actions_by : (n : ℕ) (r : Run) → ((q : Run) → clock_of (actions m n q) ≡ clock_of q) → (x : Option Entry) →
-      clock_of (elim x as (λ _. Run) [ None ↦ r | Some e ↦ actions m n (settled m (entry_action m e e.blocker r)) ]) ≡ clock_of r
+  actions_by : (n : ℕ) (r : Run) → ((q : Run) → clock_of (actions m n q) ≡ clock_of q) → (x : Option Waiter) →
+      clock_of (elim x as (λ _. Run) [
+        | None ↦ r
+        | Some e ↦ actions m n (settled m (entry_action m e e.blocker r))
+      ]) ≡ clock_of r
   actions_by n r h None = refl
   actions_by n r h (Some e) =
       let u = entry_action m e e.blocker r in
@@ -195,7 +216,10 @@ module _ (m : Meaning) where
 
   -- a step, by whether its number is in the range
   step_by_range : (number p n : ℕ) (b : Bool) (r : Run) →
-      clock_of (elim b as (λ _. Run) [ true ↦ step_event m number p n r | false ↦ noted (Refused number BadIndex) r ]) ≡ clock_of r
+      clock_of (elim b as (λ _. Run) [
+        | true ↦ step_event m number p n r
+        | false ↦ noted (Refused number BadIndex) r
+      ]) ≡ clock_of r
   step_by_range number p n true r = step_event_clock number p n r
   step_by_range number p n false r = refl
 
@@ -211,7 +235,10 @@ module _ (m : Meaning) where
 
   -- a system call, by whether its process lives
   sys_by_life : (number p : ℕ) (call : SysCall) (b : Bool) (r : Run) →
-      clock_of (elim b as (λ _. Run) [ false ↦ noted (Refused number NoProcess) r | true ↦ sys_event m number p call (r.kernel.call p) r ]) ≡ clock_of r
+      clock_of (elim b as (λ _. Run) [
+        | false ↦ noted (Refused number NoProcess) r
+        | true ↦ sys_event m number p call (r.kernel.call p) r
+      ]) ≡ clock_of r
   sys_by_life number p call false r = refl
   sys_by_life number p call true r = sys_clock number p call (r.kernel.call p) r
 
@@ -226,4 +253,5 @@ module _ (m : Meaning) where
 
   -- no other event changes the clock
   pub others_leave_the_clock : OthersLeaveTheClock m
-  others_leave_the_clock k blocks number e io h = event_clock number e (record { kernel = k; blocks = blocks; notes = []; io = io }) h
+  others_leave_the_clock k blocks number e io h =
+      event_clock number e (record { kernel = k; blocks = blocks; notes = []; io = io }) h

@@ -1,5 +1,6 @@
 -- The state after boot is sound.
-use Rattle.std.specs.Prelude.{◌≡◌, ◌≢◌, ℕ, ◌+◌, ◌<◌, ◌≤◌, ◌==◌, Bool, true, false, cond, List, [], ◌∷◌, Some, None, Contains, map, slice_index_or, zero, suc}
+use Rattle.std.specs.Prelude.{◌≡◌, ◌≢◌, ℕ, ◌+◌, ◌<◌, ◌≤◌, ◌==◌, Bool, true, false, cond, List, []}
+use Rattle.std.specs.Prelude.{◌∷◌, Some, None, Contains, map, slice_index_or, zero, suc}
 use Rattle.std.proofs.Common.{arith, refl, ap, ◌∙◌}
 use Rattle.std.proofs.lemmas.Bool.Decides.{nat_tests}
 use Rattle.std.proofs.lemmas.List.Elements.{All-contains, All-from_recursion}
@@ -12,8 +13,9 @@ use Rattle.kernel_model.specs.Levels.{Level, touched_at}
 use Rattle.kernel_model.specs.Blocking.{levels_of, holds}
 use Rattle.kernel_model.specs.Access.{param_top}
 use Rattle.kernel_model.specs.Opening.{opening_account, opening_accounts, opening_policy, opening_kernel}
-use Rattle.kernel_model.specs.Sound.{IsSoundPolicy, ParamFits, count_of, once_if, in_queue, ledger, sum_below, graft_balance, clash}
-use Rattle.plain_rules.specs.Ledgers.{sum_one, sum_zero}
+use Rattle.kernel_model.specs.Sound.{IsSoundPolicy, ParamFits, count_of, once_if, in_queue, ledger}
+use Rattle.kernel_model.specs.Sound.{sum_below, graft_balance, clash}
+use Rattle.call_laws.specs.Ledgers.{sum_one, sum_zero}
 use Rattle.kernel_laws.specs.Soundness.{OpeningIsSound, OpeningKernelIsSound}
 
 -- the queue after boot
@@ -31,13 +33,15 @@ once_each : (p : ℕ) → count_of p (in_queue first_queue) ≡ once_if (lives f
 once_each p = grind (arith, nat_tests)
 
 first_nices : (r : QueueRow) → Contains first_queue r → r.nice ≤ 39
-first_nices r c = All-contains (λ (x : QueueRow). x.nice ≤ 39) first_queue r (All-from_recursion (λ (x : QueueRow). x.nice ≤ 39) first_queue (low_nice, tt)) c
+first_nices r c =
+    All-contains (λ (x : QueueRow). x.nice ≤ 39) first_queue r
+    (All-from_recursion (λ (x : QueueRow). x.nice ≤ 39) first_queue (low_nice, tt)) c
   where
     low_nice : 20 ≤ 39
     low_nice = omega arith
 
 -- nothing stands where nothing is
-none_some : {A : Type 0} (x : A) → None ≡ Some x → ⊥
+pub none_some : {A : Type 0} (x : A) → None ≡ Some x → ⊥
 none_some x e = cc
 
 -- a parameter of at most 2 is in the range of each policy that has one
@@ -60,8 +64,11 @@ first_policies kind low = record { chosen = grind (arith, nat_tests); params = �
 -- the ledgers after boot
 first_ledgers : (grant : ℕ) (k : Kind) → sum_below 16 (ledger (opening_accounts grant) k) ≡ grant
 first_ledgers grant k =
-    let nothing : sum_below 16 (λ pt. graft_balance k None) ≡ 0 = sum_zero 16 (λ pt. graft_balance k None) (λ i low. refl) in
-    let others = sum_one 16 0 (ledger (opening_accounts grant) k) (λ i. 0) (omega arith) (λ i low ne. ap (λ n. (opening_account grant i).balance k + 0 + n) nothing ∙ other_balance grant k i ne) in
+    let nothing : sum_below 16 (λ pt. graft_balance k None) ≡ 0 =
+    sum_zero 16 (λ pt. graft_balance k None) (λ i low. refl) in
+    let others = sum_one 16 0 (ledger (opening_accounts grant) k) (λ i. 0) (omega arith)
+    (λ i low ne. ap (λ n. (opening_account grant i).balance k + 0 + n) nothing
+    ∙ other_balance grant k i ne) in
     let zeros = sum_zero 16 (λ i. 0) (λ i low. refl) in
     omega arith
   where
@@ -84,7 +91,13 @@ opening_is_sound v images world disk =
         frames = λ f x e. absurd (none_some x e);
         holders = λ u p e. absurd (none_some p e);
         grafts = λ q pt g e. absurd (none_some g e);
-        gone = λ p e. record { cells = λ k. refl; files = λ fd. refl; balances = λ k. ap (λ b. cond b v.grant 0) (not_root p e); spent = λ k. refl };
+        gone =
+            λ p e. record {
+              cells = λ k. refl;
+              files = λ fd. refl;
+              balances = λ k. ap (λ b. cond b v.grant 0) (not_root p e);
+              spent = λ k. refl;
+            };
         files = λ p fd o e. absurd (none_some o e);
         policies = first_policies;
         handlers = record { once = λ q pt. omega arith; points = refl; most = λ pt. omega arith };
@@ -116,7 +129,9 @@ opening_kernel_is_sound m v world disk =
       state = opening_is_sound v (λ slot. None) world disk;
       runs = λ p c ks e marked. absurd (none_some c e);
       grafts = λ p f l e c. absurd (none_some f e);
-      apart = λ p q d e o ne. ap (λ (ls : List Level). clash (touched_at ls d o) (holds m k q e o)) (all_empty (levels_of m k) (λ i. refl) processes p);
+      apart =
+          λ p q d e o ne. ap (λ (ls : List Level). clash (touched_at ls d o) (holds m k q e o))
+          (all_empty (levels_of m k) (λ i. refl) processes p);
       callers = λ p c e. absurd (none_some c e);
       granted = λ p c e. absurd (none_some c e);
       fit = λ p c e. absurd (none_some c e);

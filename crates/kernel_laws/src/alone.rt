@@ -1,6 +1,7 @@
 //! Laws of a call that is alone in flight, where no graft stands.
 
 ghost use Rattle.kernel_model.specs.Alone.{CallsRunAlone, OthersAreFree, NothingIsLeft};
+ghost use Rattle.kernel_laws.specs.Alone.{EventOfOne, EventOfTwo};
 
 use kernel_model::Rules;
 
@@ -19,4 +20,15 @@ pub fn others_are_free<R: Rules>()
 /// `waits` and no `graft` line.
 pub fn nothing_is_left<R: Rules>()
     ensures { NothingIsLeft R.meaning }
+{}
+
+/// The event of a call of one piece is that piece by default, with its notes, and afterwards no
+/// call is in flight. No law is asked of the table.
+pub fn event_of_one<R: Rules>()
+    ensures { EventOfOne R.meaning }
+{}
+
+/// So is it of a call of two pieces, one after the other.
+pub fn event_of_two<R: Rules>()
+    ensures { EventOfTwo R.meaning }
 {}

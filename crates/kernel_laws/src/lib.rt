@@ -6,6 +6,4 @@ pub mod amounts;
 pub mod clock;
 pub mod rest;
 pub mod soundness;
-#[cfg(test)]
-mod tests;
 pub mod undoing;

@@ -2,19 +2,19 @@
 -- undoes it.
 use Rattle.std.specs.Prelude.{ℕ, Bool, true, false, cond, not, ◌&&◌, ◌||◌, ◌==◌, nat_lt, nat_le}
 use Rattle.std.specs.Prelude.{List, [], ◌∷◌, Option, Some, None, length, slice_get, map, option_map}
-use Rattle.kernel_model.specs.declared.Object.{Object}
-use Rattle.kernel_model.specs.declared.Object.TheVariants.{Graft, Cell, OpenFile, Queue, Cache, Lock, Pol}
-use Rattle.kernel_model.specs.declared.Mode.{Mode}
-use Rattle.kernel_model.specs.declared.Mode.TheVariants.{Shared, Exclusive}
-use Rattle.kernel_model.specs.declared.Need.{Need}
-use Rattle.kernel_model.specs.declared.Cause.{Cause}
-use Rattle.kernel_model.specs.declared.Cause.TheVariants.{NotCallable, BadArgument, NotYours, NotAllowed}
-use Rattle.kernel_model.specs.declared.Inverse.{Inverse}
-use Rattle.kernel_model.specs.declared.Inverse.TheVariants.{Nice, Window, Mark, Tune, Segment}
-use Rattle.kernel_model.specs.declared.QueueRow.{QueueRow}
-use Rattle.kernel_model.specs.declared.OpenRow.{OpenRow}
-use Rattle.kernel_model.specs.Objects.{Things, FrameValue, PolValue, at, at2}
-use Rattle.kernel_model.specs.Policies.{frames_of, nice_of}
+use Rattle.kernel_data.specs.declared.Object.{Object}
+use Rattle.kernel_data.specs.declared.Object.TheVariants.{Graft, Cell, OpenFile, Queue, Cache, Lock, Pol}
+use Rattle.kernel_data.specs.declared.Mode.{Mode}
+use Rattle.kernel_data.specs.declared.Mode.TheVariants.{Shared, Exclusive}
+use Rattle.kernel_data.specs.declared.Need.{Need}
+use Rattle.kernel_data.specs.declared.Cause.{Cause}
+use Rattle.kernel_data.specs.declared.Cause.TheVariants.{NotCallable, BadArgument, NotYours, NotAllowed}
+use Rattle.kernel_data.specs.declared.Inverse.{Inverse}
+use Rattle.kernel_data.specs.declared.Inverse.TheVariants.{Nice, Window, Mark, Tune, Segment}
+use Rattle.kernel_data.specs.declared.QueueRow.{QueueRow}
+use Rattle.kernel_data.specs.declared.OpenRow.{OpenRow}
+use Rattle.kernel_data.specs.Objects.{Things, FrameValue, PolValue, at, at2}
+use Rattle.kernel_data.specs.Policies.{frames_of, nice_of}
 
 -- ---- refusals and objects
 

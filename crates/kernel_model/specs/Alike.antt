@@ -1,14 +1,14 @@
 -- States and graft calls that agree as far as it matters.
 use Rattle.std.specs.Prelude.{◌≡◌, ℕ, Bool, true, false, ◌&&◌, ◌||◌, List, [], ◌∷◌, map, option_map, Option, Some, ⊤}
 use Rattle.std.specs.List.{list_any}
-use Rattle.kernel_model.specs.declared.Need.{Need}
-use Rattle.kernel_model.specs.declared.Object.{Object}
-use Rattle.kernel_model.specs.declared.QueueRow.{QueueRow}
-use Rattle.kernel_model.specs.declared.OpenRow.{OpenRow}
-use Rattle.kernel_model.specs.declared.Mode.{Mode}
-use Rattle.kernel_model.specs.World.{Image, ImageTable}
-use Rattle.kernel_model.specs.Objects.{Objects, FrameValue, SameAt, SameThing, same_object}
-use Rattle.kernel_model.specs.Policies.{lives}
+use Rattle.kernel_data.specs.declared.Need.{Need}
+use Rattle.kernel_data.specs.declared.Object.{Object}
+use Rattle.kernel_data.specs.declared.QueueRow.{QueueRow}
+use Rattle.kernel_data.specs.declared.OpenRow.{OpenRow}
+use Rattle.kernel_data.specs.declared.Mode.{Mode}
+use Rattle.kernel_data.specs.World.{Image, ImageTable}
+use Rattle.kernel_data.specs.Objects.{Objects, FrameValue, SameAt, SameThing, same_object}
+use Rattle.kernel_data.specs.Policies.{lives}
 use Rattle.kernel_model.specs.Locks.{is_held}
 use Rattle.kernel_model.specs.Levels.{Level, Config, level_at}
 

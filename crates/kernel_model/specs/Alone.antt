@@ -10,19 +10,19 @@ use Rattle.std.proofs.Common.{arith, sym, subst, ap, ◌∙◌, inl, inr}
 use Rattle.std.proofs.lemmas.Bool.{cases_Bool}
 use Rattle.std.proofs.lemmas.Cmp.{nat_eq_equiv}
 use Rattle.std.proofs.lemmas.List.Elements.{Contains-append_right}
-use Rattle.kernel_model.specs.declared.Need.{Need}
-use Rattle.kernel_model.specs.declared.SysCall.{SysCall}
-use Rattle.kernel_model.specs.declared.SysCall.TheVariants.{TakeLock}
-use Rattle.kernel_model.specs.declared.Event.TheVariants.{Sys}
-use Rattle.kernel_model.specs.declared.Note.{Note}
-use Rattle.kernel_model.specs.declared.Note.TheVariants.{Ended, Refused, Gave}
-use Rattle.kernel_model.specs.World.{World, ImageTable, Blocks}
-use Rattle.kernel_model.specs.Objects.{Objects, GraftValue}
-use Rattle.kernel_model.specs.Policies.{lives}
+use Rattle.kernel_data.specs.declared.Need.{Need}
+use Rattle.kernel_data.specs.declared.SysCall.{SysCall}
+use Rattle.kernel_data.specs.declared.SysCall.TheVariants.{TakeLock}
+use Rattle.kernel_data.specs.declared.Event.TheVariants.{Sys}
+use Rattle.kernel_data.specs.declared.Note.{Note}
+use Rattle.kernel_data.specs.declared.Note.TheVariants.{Ended, Refused, Gave}
+use Rattle.kernel_data.specs.World.{World, ImageTable, Blocks}
+use Rattle.kernel_data.specs.Objects.{Objects, GraftValue}
+use Rattle.kernel_data.specs.Policies.{lives}
 use Rattle.kernel_model.specs.Meaning.{Meaning, Stage, Piece, After, Continues, EndsWith, Fails}
 use Rattle.kernel_model.specs.Kernel.{Kernel, Run, gave_note, after_note}
 use Rattle.kernel_model.specs.Locks.{user_of}
-use Rattle.kernel_model.specs.declared.Object.{Object}
+use Rattle.kernel_data.specs.declared.Object.{Object}
 use Rattle.kernel_model.specs.Settle.{settle}
 use Rattle.kernel_model.specs.Events.{event, last, last_note}
 use Rattle.kernel_model.specs.Quiet.{quiet, at_rest, begins_alone, goes_alone, left_by, is_others}

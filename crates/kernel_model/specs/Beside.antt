@@ -2,7 +2,7 @@
 -- second's. So a table of new calls is written and proved alone, and put beside those that there
 -- are.
 use Rattle.std.specs.Prelude.{Bool, cond}
-use Rattle.kernel_model.specs.declared.SysCall.{SysCall}
+use Rattle.kernel_data.specs.declared.SysCall.{SysCall}
 use Rattle.kernel_model.specs.Meaning.{Meaning}
 
 -- the table of the calls of a, which pass the test, and of those of b

@@ -2,9 +2,9 @@
 -- step needs, and who blocks it.
 use Rattle.std.specs.Prelude.{ℕ, Bool, true, false, cond, ◌&&◌, ◌==◌, List, [], Option, Some, None}
 use Rattle.std.specs.Prelude.{map, option_map, slice_index_or}
-use Rattle.kernel_model.specs.declared.Need.{Need}
-use Rattle.kernel_model.specs.Objects.{same_object}
-use Rattle.kernel_model.specs.World.{processes}
+use Rattle.kernel_data.specs.declared.Need.{Need}
+use Rattle.kernel_data.specs.Objects.{same_object}
+use Rattle.kernel_data.specs.World.{processes}
 use Rattle.kernel_model.specs.Meaning.{Meaning}
 use Rattle.kernel_model.specs.Locks.{LockTable, Hindrance, first_hindrance}
 use Rattle.kernel_model.specs.Levels.{Level, Config, touched_at}

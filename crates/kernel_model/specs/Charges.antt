@@ -1,9 +1,9 @@
 -- Who pays for what a graft takes, and what becomes of its balances. All of it is about accounts
 -- and grafts alone.
 use Rattle.std.specs.Prelude.{ℕ, zero, suc, ◌+◌, ◌-◌, true, false, cond, Option, Some, None}
-use Rattle.kernel_model.specs.declared.Kind.{Kind}
-use Rattle.kernel_model.specs.declared.Kind.TheVariants.{Steps}
-use Rattle.kernel_model.specs.Objects.{Accounts, GraftValue, AcctValue, at, at2, at_kind}
+use Rattle.kernel_data.specs.declared.Kind.{Kind}
+use Rattle.kernel_data.specs.declared.Kind.TheVariants.{Steps}
+use Rattle.kernel_data.specs.Objects.{Accounts, GraftValue, AcctValue, at, at2, at_kind}
 
 -- the payer's balance: the graft's own, or the installer's where the graft is billed
 abbrev pub payer_balance : Kind → AcctValue → Option GraftValue → ℕ

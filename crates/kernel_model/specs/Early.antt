@@ -2,15 +2,15 @@
 -- the least number first.
 use Rattle.std.specs.Prelude.{ℕ, ◌+◌, ◌==◌, Bool, cond, not, ◌||◌, nat_le, nat_lt, length, is_some}
 use Rattle.std.specs.Prelude.{Option, Some, None, Result, Ok, Err}
-use Rattle.kernel_model.specs.declared.SysCall.{SysCall}
-use Rattle.kernel_model.specs.declared.SysCall.TheVariants.{Exit, OpenName, CloseFd, Read, Write}
-use Rattle.kernel_model.specs.declared.SysCall.TheVariants.{TakeLock, FreeLock, Poke, Peek, Tune}
-use Rattle.kernel_model.specs.declared.SysCall.TheVariants.{Choose, Give, Install, Remove, Fund}
-use Rattle.kernel_model.specs.declared.SysCall.TheVariants.{Bill, Serve, StreamRead, StreamWrite}
-use Rattle.kernel_model.specs.declared.Refusal.{Refusal}
-use Rattle.kernel_model.specs.declared.Refusal.TheVariants.{NoProcess, Denied, BadPoint, BadFd}
-use Rattle.kernel_model.specs.declared.Refusal.TheVariants.{NoFile, BadIndex, NoImage}
-use Rattle.kernel_model.specs.World.{World, ImageTable, file_named}
+use Rattle.kernel_data.specs.declared.SysCall.{SysCall}
+use Rattle.kernel_data.specs.declared.SysCall.TheVariants.{Exit, OpenName, CloseFd, Read, Write}
+use Rattle.kernel_data.specs.declared.SysCall.TheVariants.{TakeLock, FreeLock, Poke, Peek, Tune}
+use Rattle.kernel_data.specs.declared.SysCall.TheVariants.{Choose, Give, Install, Remove, Fund}
+use Rattle.kernel_data.specs.declared.SysCall.TheVariants.{Bill, Serve, StreamRead, StreamWrite}
+use Rattle.kernel_data.specs.declared.Refusal.{Refusal}
+use Rattle.kernel_data.specs.declared.Refusal.TheVariants.{NoProcess, Denied, BadPoint, BadFd}
+use Rattle.kernel_data.specs.declared.Refusal.TheVariants.{NoFile, BadIndex, NoImage}
+use Rattle.kernel_data.specs.World.{World, ImageTable, file_named}
 use Rattle.kernel_model.specs.Meaning.{Stage, stage}
 
 -- the highest point of the calls that are built

@@ -5,16 +5,16 @@
 use Rattle.std.specs.Prelude.{ℕ, zero, suc, ◌+◌, Bool, true, false, cond, ◌&&◌, ◌||◌, ◌==◌, nat_le}
 use Rattle.std.specs.Prelude.{nat_lt, List, [], ◌∷◌, ◌++◌, length, Option, Some, None, option_map}
 use Rattle.std.specs.List.{list_all}
-use Rattle.kernel_model.specs.declared.Need.{Need}
-use Rattle.kernel_model.specs.declared.Point.{Point}
-use Rattle.kernel_model.specs.declared.Object.TheVariants.{Graft, Queue}
-use Rattle.kernel_model.specs.declared.SysCall.{SysCall}
-use Rattle.kernel_model.specs.declared.SysCall.TheVariants.{Serve, Install, Remove, Fund, Bill}
-use Rattle.kernel_model.specs.declared.Refusal.{Refusal}
-use Rattle.kernel_model.specs.declared.Refusal.TheVariants.{BadPoint, BadIndex, Taken, NoGraft, PortFull}
-use Rattle.kernel_model.specs.declared.Reply.TheVariants.{One}
-use Rattle.kernel_model.specs.World.{World, ImageTable, Blocks}
-use Rattle.kernel_model.specs.Objects.{Objects, GraftValue}
+use Rattle.kernel_data.specs.declared.Need.{Need}
+use Rattle.kernel_data.specs.declared.Point.{Point}
+use Rattle.kernel_data.specs.declared.Object.TheVariants.{Graft, Queue}
+use Rattle.kernel_data.specs.declared.SysCall.{SysCall}
+use Rattle.kernel_data.specs.declared.SysCall.TheVariants.{Serve, Install, Remove, Fund, Bill}
+use Rattle.kernel_data.specs.declared.Refusal.{Refusal}
+use Rattle.kernel_data.specs.declared.Refusal.TheVariants.{BadPoint, BadIndex, Taken, NoGraft, PortFull}
+use Rattle.kernel_data.specs.declared.Reply.TheVariants.{One}
+use Rattle.kernel_data.specs.World.{World, ImageTable, Blocks}
+use Rattle.kernel_data.specs.Objects.{Objects, GraftValue}
 use Rattle.kernel_model.specs.Handlers.{handlers_at, handlers_with, handlers_without, has_room}
 use Rattle.kernel_model.specs.Meaning.{Meaning, Stage, Answer, Piece, After, Continues, EndsWith}
 use Rattle.kernel_model.specs.Charges.{removed}

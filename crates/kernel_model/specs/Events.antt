@@ -3,26 +3,26 @@
 use Rattle.std.specs.Prelude.{ℕ, zero, suc, Bool, true, false, not, ◌&&◌, ◌==◌, nat_le, List, []}
 use Rattle.std.specs.Prelude.{◌∷◌, Option, Some, None, map, length, Result, Ok, Err}
 use Rattle.std.specs.List.{list_any}
-use Rattle.kernel_model.specs.declared.Need.{Need}
-use Rattle.kernel_model.specs.declared.Object.{Object}
-use Rattle.kernel_model.specs.declared.Object.TheVariants.{Graft, Acct, Cell, OpenFile, Queue, Cache, Lock, Pol}
-use Rattle.kernel_model.specs.declared.Mode.{Mode}
-use Rattle.kernel_model.specs.declared.Event.{Event}
-use Rattle.kernel_model.specs.declared.Event.TheVariants.{Tick, Step, Sys}
-use Rattle.kernel_model.specs.declared.SysCall.{SysCall}
-use Rattle.kernel_model.specs.declared.Note.TheVariants.{Ticked, Refused, Ran, Waits, InGraft}
-use Rattle.kernel_model.specs.declared.Refusal.{Refusal}
-use Rattle.kernel_model.specs.declared.Refusal.TheVariants.{NoProcess, Busy, BadIndex, TimedOut}
-use Rattle.kernel_model.specs.declared.Cause.{Cause}
-use Rattle.kernel_model.specs.declared.Cause.TheVariants.{TimeOut}
-use Rattle.kernel_model.specs.World.{Blocks}
-use Rattle.kernel_model.specs.Objects.{same_object}
-use Rattle.kernel_model.specs.Policies.{lives}
+use Rattle.kernel_data.specs.declared.Need.{Need}
+use Rattle.kernel_data.specs.declared.Object.{Object}
+use Rattle.kernel_data.specs.declared.Object.TheVariants.{Graft, Acct, Cell, OpenFile, Queue, Cache, Lock, Pol}
+use Rattle.kernel_data.specs.declared.Mode.{Mode}
+use Rattle.kernel_data.specs.declared.Event.{Event}
+use Rattle.kernel_data.specs.declared.Event.TheVariants.{Tick, Step, Sys}
+use Rattle.kernel_data.specs.declared.SysCall.{SysCall}
+use Rattle.kernel_data.specs.declared.Note.TheVariants.{Ticked, Refused, Ran, Waits, InGraft}
+use Rattle.kernel_data.specs.declared.Refusal.{Refusal}
+use Rattle.kernel_data.specs.declared.Refusal.TheVariants.{NoProcess, Busy, BadIndex, TimedOut}
+use Rattle.kernel_data.specs.declared.Cause.{Cause}
+use Rattle.kernel_data.specs.declared.Cause.TheVariants.{TimeOut}
+use Rattle.kernel_data.specs.World.{Blocks}
+use Rattle.kernel_data.specs.Objects.{same_object}
+use Rattle.kernel_data.specs.Policies.{lives}
 use Rattle.kernel_model.specs.Meaning.{Meaning, Stage}
 use Rattle.kernel_model.specs.Locks.{outermost_holding}
 use Rattle.kernel_model.specs.Levels.{Level, drop_level}
 use Rattle.kernel_model.specs.History.{Mark, Trace}
-use Rattle.kernel_model.specs.Kernel.{Call, Blocker, Entry, Kernel, Run, noted, joins, requeue, with_call, has_level}
+use Rattle.kernel_model.specs.Kernel.{Call, Blocker, Waiter, Kernel, Run, noted, joins, requeue, with_call, has_level}
 use Rattle.kernel_model.specs.Blocking.{needs, levels_of, holds, blocker, trace_of}
 use Rattle.kernel_model.specs.Settle.{outcome_step, settled, step}
 
@@ -42,8 +42,8 @@ abbrev pub MOST_STEPS : ℕ
 MOST_STEPS = 65536
 
 -- a process stands in the order of waiting
-abbrev pub in_order : ℕ → List Entry → Bool
-in_order p es = list_any (λ (e : Entry). e.process == p) es
+abbrev pub in_order : ℕ → List Waiter → Bool
+in_order p es = list_any (λ (e : Waiter). e.process == p) es
 
 -- ---- where a call stands at the end of an event
 
@@ -60,18 +60,18 @@ graft_note n (l ∷ ls) r = noted (InGraft n l.owner l.point (suc (length ls))) 
 -- ---- counts
 
 -- an entry's count has reached the patience of its blocker's kind
-abbrev pub is_over : Kernel → Entry → Option Blocker → Bool
+abbrev pub is_over : Kernel → Waiter → Option Blocker → Bool
 is_over k e None = false
 is_over k e (Some b) = nat_le (k.world.patience (object_kind b.object)) e.count
 
 -- the first entry whose count has reached the patience
-abbrev pub expired : Kernel → List Entry → Option Entry
+abbrev pub expired : Kernel → List Waiter → Option Waiter
 expired k [] = None
 expired k (e ∷ es) = elim (is_over k e e.blocker) [ true ↦ Some e | false ↦ expired k es ]
 
 -- each count rises by one
-abbrev pub counted : List Entry → List Entry
-counted es = map (λ (e : Entry). record e { count = suc e.count }) es
+abbrev pub counted : List Waiter → List Waiter
+counted es = map (λ (e : Waiter). record e { count = suc e.count }) es
 
 -- the clock and all counts rise by one
 abbrev pub ticked : ℕ → Run → Run
@@ -193,7 +193,7 @@ module _ (m : Meaning) where
   action p b (Some n) r = holder_action p b r
 
   -- the action for an entry that has waited too long
-  abbrev pub entry_action : Entry → Option Blocker → Run → Run
+  abbrev pub entry_action : Waiter → Option Blocker → Run → Run
   entry_action e None r = r
   entry_action e (Some b) r = action e.process b b.call r
 

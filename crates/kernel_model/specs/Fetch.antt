@@ -2,9 +2,9 @@
 -- at most two calls of the disk: it reads the block, and writes what the evicted frame held.
 use Rattle.std.specs.Prelude.{ℕ, ◌+◌, ◌==◌, Bool, true, false, cond, not, List, [], ◌∷◌, ◌++◌}
 use Rattle.std.specs.Prelude.{Option, Some, None, map, filter, length, slice_index, take, drop}
-use Rattle.kernel_model.specs.World.{World, Blocks}
-use Rattle.kernel_model.specs.Objects.{CacheValue, PolValue, FrameValue, at}
-use Rattle.kernel_model.specs.Policies.{or_zero, victim_among}
+use Rattle.kernel_data.specs.World.{World, Blocks}
+use Rattle.kernel_data.specs.Objects.{CacheValue, PolValue, FrameValue, at}
+use Rattle.kernel_data.specs.Policies.{or_zero, victim_among}
 use Rattle.kernel_model.specs.Meaning.{disk_fails}
 use Rattle.kernel_model.specs.Needs.{frame_of_block, free_frame}
 

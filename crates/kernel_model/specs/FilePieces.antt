@@ -1,15 +1,15 @@
 -- What the pieces of the calls on files do: open, close, read, write and sync.
 use Rattle.std.specs.Prelude.{ℕ, zero, suc, ◌+◌, ◌-◌, ◌==◌, Bool, true, false, List, Option, Some}
 use Rattle.std.specs.Prelude.{None, Result, Ok, Err, slice_index, slice_range}
-use Rattle.kernel_model.specs.declared.SysCall.TheVariants.{Read}
-use Rattle.kernel_model.specs.declared.Refusal.{Refusal}
-use Rattle.kernel_model.specs.declared.Refusal.TheVariants.{BadFd, NoFile, NoFd, DiskFault}
-use Rattle.kernel_model.specs.declared.Reply.{Reply}
-use Rattle.kernel_model.specs.declared.Reply.TheVariants.{One}
-use Rattle.kernel_model.specs.declared.OpenRow.{OpenRow}
-use Rattle.kernel_model.specs.World.{World, Blocks}
-use Rattle.kernel_model.specs.Objects.{Objects, Things, CacheValue, at, at2, with_things}
-use Rattle.kernel_model.specs.Policies.{ahead_default}
+use Rattle.kernel_data.specs.declared.SysCall.TheVariants.{Read}
+use Rattle.kernel_data.specs.declared.Refusal.{Refusal}
+use Rattle.kernel_data.specs.declared.Refusal.TheVariants.{BadFd, NoFile, NoFd, DiskFault}
+use Rattle.kernel_data.specs.declared.Reply.{Reply}
+use Rattle.kernel_data.specs.declared.Reply.TheVariants.{One}
+use Rattle.kernel_data.specs.declared.OpenRow.{OpenRow}
+use Rattle.kernel_data.specs.World.{World, Blocks}
+use Rattle.kernel_data.specs.Objects.{Objects, Things, CacheValue, at, at2, with_things}
+use Rattle.kernel_data.specs.Policies.{ahead_default}
 use Rattle.kernel_model.specs.Meaning.{Stage, Piece, After, Continues, EndsWith, Fails, stage, disk_fails}
 use Rattle.kernel_model.specs.Needs.{file_block, ahead_block}
 use Rattle.kernel_model.specs.Fetch.{Fetched, Got, Failed, fetch, fetch_ahead, bytes_of, with_patch}

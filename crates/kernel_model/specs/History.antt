@@ -3,12 +3,12 @@
 -- its levels did that outlives them. So nothing that read an object since let go is ever run again.
 use Rattle.std.specs.Prelude.{ℕ, suc, Bool, true, false, cond, ◌&&◌, ◌==◌, not, nat_le, List, []}
 use Rattle.std.specs.Prelude.{◌∷◌, ◌++◌, Option, Some, None, is_some, length, take, reverse}
-use Rattle.kernel_model.specs.declared.Need.{Need}
-use Rattle.kernel_model.specs.declared.Point.{Point}
-use Rattle.kernel_model.specs.declared.Object.TheVariants.{Graft}
-use Rattle.kernel_model.specs.Objects.{Objects, Accounts, with_accounts}
-use Rattle.kernel_model.specs.World.{World, ImageTable}
-use Rattle.kernel_model.specs.Policies.{default_of}
+use Rattle.kernel_data.specs.declared.Need.{Need}
+use Rattle.kernel_data.specs.declared.Point.{Point}
+use Rattle.kernel_data.specs.declared.Object.TheVariants.{Graft}
+use Rattle.kernel_data.specs.Objects.{Objects, Accounts, with_accounts}
+use Rattle.kernel_data.specs.World.{World, ImageTable}
+use Rattle.kernel_data.specs.Policies.{default_of}
 use Rattle.kernel_model.specs.Locks.{touch_all, untouched, is_held}
 use Rattle.kernel_model.specs.Charges.{funds, charge, removed}
 use Rattle.kernel_model.specs.Meaning.{Meaning, Stage}

@@ -2,9 +2,9 @@
 -- exclusively as that call sees it. Below a cut, a call's objects are as the cut level found them.
 use Rattle.std.specs.Prelude.{ℕ, Bool, List, [], ◌∷◌, Option, Some, None}
 use Rattle.std.specs.List.{list_any}
-use Rattle.kernel_model.specs.declared.Object.{Object}
-use Rattle.kernel_model.specs.World.{processes}
-use Rattle.kernel_model.specs.Objects.{Objects, Things, mix}
+use Rattle.kernel_data.specs.declared.Object.{Object}
+use Rattle.kernel_data.specs.World.{processes}
+use Rattle.kernel_data.specs.Objects.{Objects, Things, mix}
 use Rattle.kernel_model.specs.Locks.{is_held_exclusively}
 use Rattle.kernel_model.specs.Meaning.{Meaning}
 use Rattle.kernel_model.specs.Levels.{Level, Config, level_at}

@@ -3,11 +3,11 @@
 -- histories.
 use Rattle.std.specs.Prelude.{ℕ, Bool, true, false, cond, not, ◌==◌, List, [], ◌∷◌, ◌++◌, Option}
 use Rattle.std.specs.Prelude.{Some, None, filter, drop}
-use Rattle.kernel_model.specs.declared.Object.{Object}
-use Rattle.kernel_model.specs.declared.Note.{Note}
-use Rattle.kernel_model.specs.declared.Note.TheVariants.{Ended, Refused, Gave}
-use Rattle.kernel_model.specs.Objects.{Objects, at}
-use Rattle.kernel_model.specs.World.{World, ImageTable, Blocks}
+use Rattle.kernel_data.specs.declared.Object.{Object}
+use Rattle.kernel_data.specs.declared.Note.{Note}
+use Rattle.kernel_data.specs.declared.Note.TheVariants.{Ended, Refused, Gave}
+use Rattle.kernel_data.specs.Objects.{Objects, at}
+use Rattle.kernel_data.specs.World.{World, ImageTable, Blocks}
 use Rattle.kernel_model.specs.Meaning.{Stage, Piece, After, Continues, EndsWith, Fails}
 use Rattle.kernel_model.specs.History.{Mark}
 
@@ -29,7 +29,7 @@ pub record Blocker : Type 0 where
   pub call : Option ℕ
 
 -- an entry of the order of waiting: the kept blocker, and for how many ticks
-pub record Entry : Type 0 where
+pub record Waiter : Type 0 where
   pub process : ℕ
   pub blocker : Option Blocker
   pub count : ℕ
@@ -44,7 +44,7 @@ pub record Kernel : Type 0 where
   -- the call of each process that has one in flight
   pub call : ℕ → Option Call
   -- the order of waiting
-  pub order : List Entry
+  pub order : List Waiter
 
 -- an event under way: the kernel, the disk's blocks, the notes so far, and what the disk's next
 -- calls will do
@@ -114,12 +114,12 @@ finish p c q r =
 -- ---- the order of waiting
 
 -- an entry that has just joined: no kept blocker, and count 0
-abbrev pub new_entry : ℕ → Entry
+abbrev pub new_entry : ℕ → Waiter
 new_entry p = record { process = p; blocker = None; count = 0 }
 
 -- the order less a process's entry
-abbrev pub less_entry : ℕ → List Entry → List Entry
-less_entry p es = filter (λ (e : Entry). not (e.process == p)) es
+abbrev pub less_entry : ℕ → List Waiter → List Waiter
+less_entry p es = filter (λ (e : Waiter). not (e.process == p)) es
 
 -- the call of p joins the order at its end
 abbrev pub joins : ℕ → Run → Run

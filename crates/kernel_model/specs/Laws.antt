@@ -6,18 +6,18 @@ use Rattle.std.specs.Prelude.{◌==◌, List, [], ◌∷◌, ◌++◌, length, t
 use Rattle.std.specs.Prelude.{Contains, Option, Some, None, is_some, Ok, slice_index, ⊤}
 use Rattle.std.specs.List.{list_any, AllByRecursion}
 use Rattle.std.specs.Result.{is_ok}
-use Rattle.kernel_model.specs.declared.Need.{Need}
-use Rattle.kernel_model.specs.declared.Point.{Point}
-use Rattle.kernel_model.specs.declared.Object.{Object}
-use Rattle.kernel_model.specs.declared.Object.TheVariants.{Graft, Acct, Cell, OpenFile, Queue, Cache, Lock, Pol}
-use Rattle.kernel_model.specs.declared.SysCall.{SysCall}
-use Rattle.kernel_model.specs.declared.SysCall.TheVariants.{Sync, TakeLock}
-use Rattle.kernel_model.specs.declared.Refusal.{Refusal}
-use Rattle.kernel_model.specs.declared.Refusal.TheVariants.{DiskFault}
-use Rattle.kernel_model.specs.declared.QueueRow.{QueueRow}
-use Rattle.kernel_model.specs.World.{World, ImageTable, Blocks}
-use Rattle.kernel_model.specs.Objects.{Objects, SameAt}
-use Rattle.kernel_model.specs.Policies.{PointKind, Ahead, Victim, Next, Serve, Stream, kind_of, lives}
+use Rattle.kernel_data.specs.declared.Need.{Need}
+use Rattle.kernel_data.specs.declared.Point.{Point}
+use Rattle.kernel_data.specs.declared.Object.{Object}
+use Rattle.kernel_data.specs.declared.Object.TheVariants.{Graft, Acct, Cell, OpenFile, Queue, Cache, Lock, Pol}
+use Rattle.kernel_data.specs.declared.SysCall.{SysCall}
+use Rattle.kernel_data.specs.declared.SysCall.TheVariants.{Sync, TakeLock}
+use Rattle.kernel_data.specs.declared.Refusal.{Refusal}
+use Rattle.kernel_data.specs.declared.Refusal.TheVariants.{DiskFault}
+use Rattle.kernel_data.specs.declared.QueueRow.{QueueRow}
+use Rattle.kernel_data.specs.World.{World, ImageTable, Blocks}
+use Rattle.kernel_data.specs.Objects.{Objects, SameAt}
+use Rattle.kernel_data.specs.Policies.{PointKind, Ahead, Victim, Next, Serve, Stream, kind_of, lives}
 use Rattle.kernel_model.specs.Meaning.{Meaning, Stage, Answer, HasWholeBody, registers_of, Piece}
 use Rattle.kernel_model.specs.Meaning.{After, Continues, Fails}
 use Rattle.kernel_model.specs.Needs.{point_needs}

@@ -2,17 +2,17 @@
 -- begins, how its answer goes to its asker, and how it is dropped.
 use Rattle.std.specs.Prelude.{ℕ, ◌+◌, ◌*◌, min, Bool, true, false, ◌==◌, List, [], ◌∷◌, Option}
 use Rattle.std.specs.Prelude.{Some, None, length, slice_get, slice_index}
-use Rattle.kernel_model.specs.declared.Object.{Object}
-use Rattle.kernel_model.specs.declared.Mode.{Mode}
-use Rattle.kernel_model.specs.declared.Kind.{Kind}
-use Rattle.kernel_model.specs.declared.Need.{Need}
-use Rattle.kernel_model.specs.declared.Cause.{Cause}
+use Rattle.kernel_data.specs.declared.Object.{Object}
+use Rattle.kernel_data.specs.declared.Mode.{Mode}
+use Rattle.kernel_data.specs.declared.Kind.{Kind}
+use Rattle.kernel_data.specs.declared.Need.{Need}
+use Rattle.kernel_data.specs.declared.Cause.{Cause}
 use Rattle.kernel_model.specs.declared.Micro.{Micro}
-use Rattle.kernel_model.specs.declared.Instr.{Instr}
-use Rattle.kernel_model.specs.Objects.{Objects, Things, Accounts, GraftValue, at}
-use Rattle.kernel_model.specs.World.{World, Image, ImageTable}
-use Rattle.kernel_model.specs.Machine.{Machine, first_machine, segment_base, fed, bytes_given}
-use Rattle.kernel_model.specs.Policies.{PointKind, Ahead, Victim, Next, Serve, Stream, kind_of, default_of, or_zero}
+use Rattle.kernel_data.specs.declared.Instr.{Instr}
+use Rattle.kernel_data.specs.Objects.{Objects, Things, Accounts, GraftValue, at}
+use Rattle.kernel_data.specs.World.{World, Image, ImageTable}
+use Rattle.graft_code.specs.Machine.{Machine, first_machine, segment_base, fed, bytes_given}
+use Rattle.kernel_data.specs.Policies.{PointKind, Ahead, Victim, Next, Serve, Stream, kind_of, default_of, or_zero}
 use Rattle.kernel_model.specs.Locks.{Touched, touch, touch_all, untouched}
 use Rattle.kernel_model.specs.Access.{Found}
 use Rattle.kernel_model.specs.Meaning.{Answer, bare_answer}

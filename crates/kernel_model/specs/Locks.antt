@@ -3,13 +3,13 @@
 -- hindered by another call's hold, or by a user lock.
 use Rattle.std.specs.Prelude.{ℕ, ◌-◌, ◌==◌, Bool, true, false, cond, not, ◌&&◌, nat_le, List, []}
 use Rattle.std.specs.Prelude.{◌∷◌, Option, Some, None, find, is_some}
-use Rattle.kernel_model.specs.declared.Object.{Object}
-use Rattle.kernel_model.specs.declared.Object.TheVariants.{Lock}
-use Rattle.kernel_model.specs.declared.Mode.{Mode}
-use Rattle.kernel_model.specs.declared.Held.{Held}
-use Rattle.kernel_model.specs.declared.Need.{Need}
-use Rattle.kernel_model.specs.World.{processes}
-use Rattle.kernel_model.specs.Objects.{same_object, at2}
+use Rattle.kernel_data.specs.declared.Object.{Object}
+use Rattle.kernel_data.specs.declared.Object.TheVariants.{Lock}
+use Rattle.kernel_data.specs.declared.Mode.{Mode}
+use Rattle.kernel_data.specs.declared.Held.{Held}
+use Rattle.kernel_data.specs.declared.Need.{Need}
+use Rattle.kernel_data.specs.World.{processes}
+use Rattle.kernel_data.specs.Objects.{same_object, at2}
 
 -- ---- one level
 

@@ -2,13 +2,13 @@
 -- table, so later calls are a new table and not a new kernel.
 use Rattle.std.specs.Prelude.{◌≡◌, ℕ, min, Bool, false, List, [], length, Option, None, Some}
 use Rattle.std.specs.Prelude.{option_map, Result, slice_index, slice_index_or, ⊤}
-use Rattle.kernel_model.specs.declared.Need.{Need}
-use Rattle.kernel_model.specs.declared.Point.{Point}
-use Rattle.kernel_model.specs.declared.SysCall.{SysCall}
-use Rattle.kernel_model.specs.declared.Refusal.{Refusal}
-use Rattle.kernel_model.specs.declared.Reply.{Reply}
-use Rattle.kernel_model.specs.Objects.{Objects}
-use Rattle.kernel_model.specs.World.{World, ImageTable, Blocks}
+use Rattle.kernel_data.specs.declared.Need.{Need}
+use Rattle.kernel_data.specs.declared.Point.{Point}
+use Rattle.kernel_data.specs.declared.SysCall.{SysCall}
+use Rattle.kernel_data.specs.declared.Refusal.{Refusal}
+use Rattle.kernel_data.specs.declared.Reply.{Reply}
+use Rattle.kernel_data.specs.Objects.{Objects}
+use Rattle.kernel_data.specs.World.{World, ImageTable, Blocks}
 
 -- where a call stands, and what it carries from piece to piece: only those of event points and
 -- streams carry something

@@ -5,27 +5,27 @@ use Rattle.std.specs.Prelude.{ℕ, zero, suc, ◌+◌, ◌*◌, ◌==◌, Bool, 
 use Rattle.std.specs.Prelude.{nat_lt, List, [], ◌∷◌, ◌++◌, Option, Some, None, map, length, Result}
 use Rattle.std.specs.Prelude.{Ok, Err}
 use Rattle.std.specs.List.{range_with_len}
-use Rattle.kernel_model.specs.declared.Need.{Need}
-use Rattle.kernel_model.specs.declared.Point.{Point}
-use Rattle.kernel_model.specs.declared.Object.{Object}
-use Rattle.kernel_model.specs.declared.Object.TheVariants.{Graft, Acct, OpenFile, Queue, Cache, Lock, Pol}
-use Rattle.kernel_model.specs.declared.Mode.TheVariants.{Shared, Exclusive}
-use Rattle.kernel_model.specs.declared.Kind.{Kind}
-use Rattle.kernel_model.specs.declared.SysCall.{SysCall}
-use Rattle.kernel_model.specs.declared.SysCall.TheVariants.{Spawn, Exit, Yield, OpenName, CloseFd}
-use Rattle.kernel_model.specs.declared.SysCall.TheVariants.{Read, Write, Sync, TakeLock, FreeLock}
-use Rattle.kernel_model.specs.declared.SysCall.TheVariants.{Poke, Peek, Tune, Choose, Give, Install}
-use Rattle.kernel_model.specs.declared.SysCall.TheVariants.{Remove, Fund, Bill, Serve, StreamRead}
-use Rattle.kernel_model.specs.declared.SysCall.TheVariants.{StreamWrite}
-use Rattle.kernel_model.specs.declared.Refusal.{Refusal}
-use Rattle.kernel_model.specs.declared.Refusal.TheVariants.{BadFd, BadIndex}
-use Rattle.kernel_model.specs.declared.OpenRow.{OpenRow}
-use Rattle.kernel_model.specs.declared.FileRow.{FileRow}
-use Rattle.kernel_model.specs.declared.QueueRow.{QueueRow}
-use Rattle.kernel_model.specs.World.{World, file_row, block_of}
-use Rattle.kernel_model.specs.Objects.{Objects, Things, Accounts, CacheValue, PolValue, GraftValue}
-use Rattle.kernel_model.specs.Policies.{lives, next_process, or_zero, args_by, Next, Ahead}
-use Rattle.kernel_model.specs.Policies.{victim_among, frame_owner, frames_of}
+use Rattle.kernel_data.specs.declared.Need.{Need}
+use Rattle.kernel_data.specs.declared.Point.{Point}
+use Rattle.kernel_data.specs.declared.Object.{Object}
+use Rattle.kernel_data.specs.declared.Object.TheVariants.{Graft, Acct, OpenFile, Queue, Cache, Lock, Pol}
+use Rattle.kernel_data.specs.declared.Mode.TheVariants.{Shared, Exclusive}
+use Rattle.kernel_data.specs.declared.Kind.{Kind}
+use Rattle.kernel_data.specs.declared.SysCall.{SysCall}
+use Rattle.kernel_data.specs.declared.SysCall.TheVariants.{Spawn, Exit, Yield, OpenName, CloseFd}
+use Rattle.kernel_data.specs.declared.SysCall.TheVariants.{Read, Write, Sync, TakeLock, FreeLock}
+use Rattle.kernel_data.specs.declared.SysCall.TheVariants.{Poke, Peek, Tune, Choose, Give, Install}
+use Rattle.kernel_data.specs.declared.SysCall.TheVariants.{Remove, Fund, Bill, Serve, StreamRead}
+use Rattle.kernel_data.specs.declared.SysCall.TheVariants.{StreamWrite}
+use Rattle.kernel_data.specs.declared.Refusal.{Refusal}
+use Rattle.kernel_data.specs.declared.Refusal.TheVariants.{BadFd, BadIndex}
+use Rattle.kernel_data.specs.declared.OpenRow.{OpenRow}
+use Rattle.kernel_data.specs.declared.FileRow.{FileRow}
+use Rattle.kernel_data.specs.declared.QueueRow.{QueueRow}
+use Rattle.kernel_data.specs.World.{World, file_row, block_of}
+use Rattle.kernel_data.specs.Objects.{Objects, Things, Accounts, CacheValue, PolValue, GraftValue}
+use Rattle.kernel_data.specs.Policies.{lives, next_process, or_zero, args_by, Next, Ahead}
+use Rattle.kernel_data.specs.Policies.{victim_among, frame_owner, frames_of}
 use Rattle.kernel_model.specs.Access.{needed}
 
 -- ---- what the lists are made of

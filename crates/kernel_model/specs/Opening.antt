@@ -1,7 +1,7 @@
 -- The state after boot.
 use Rattle.std.specs.Prelude.{ℕ, ◌==◌, cond, [], ◌∷◌, None}
-use Rattle.kernel_model.specs.World.{World}
-use Rattle.kernel_model.specs.Objects.{Objects, Accounts, Things, AcctValue, PolValue}
+use Rattle.kernel_data.specs.World.{World}
+use Rattle.kernel_data.specs.Objects.{Objects, Accounts, Things, AcctValue, PolValue}
 use Rattle.kernel_model.specs.Kernel.{Kernel}
 
 -- root has the whole grant, and nothing is spent

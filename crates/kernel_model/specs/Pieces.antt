@@ -3,24 +3,24 @@
 use Rattle.std.specs.Prelude.{ℕ, zero, suc, ◌+◌, ◌-◌, ◌==◌, Bool, true, false, cond, not, ◌&&◌}
 use Rattle.std.specs.Prelude.{nat_le, nat_lt, List, [], ◌∷◌, ◌++◌, Option, Some, None, map, filter}
 use Rattle.std.specs.Prelude.{length}
-use Rattle.kernel_model.specs.declared.Kind.{Kind}
-use Rattle.kernel_model.specs.declared.SysCall.{SysCall}
-use Rattle.kernel_model.specs.declared.SysCall.TheVariants.{Spawn, Exit, Yield, OpenName, CloseFd}
-use Rattle.kernel_model.specs.declared.SysCall.TheVariants.{Read, Write, Sync, TakeLock, FreeLock}
-use Rattle.kernel_model.specs.declared.SysCall.TheVariants.{Poke, Peek, Tune, Choose, Give, Install}
-use Rattle.kernel_model.specs.declared.SysCall.TheVariants.{Remove, Fund, Bill, Serve, StreamRead}
-use Rattle.kernel_model.specs.declared.SysCall.TheVariants.{StreamWrite}
-use Rattle.kernel_model.specs.declared.Refusal.{Refusal}
-use Rattle.kernel_model.specs.declared.Refusal.TheVariants.{NoProcess, BadPoint, BadIndex, Taken}
-use Rattle.kernel_model.specs.declared.Refusal.TheVariants.{NoGraft, Short, Full, NotHeld}
-use Rattle.kernel_model.specs.declared.Reply.TheVariants.{One}
-use Rattle.kernel_model.specs.declared.QueueRow.{QueueRow}
-use Rattle.kernel_model.specs.declared.OpenRow.{OpenRow}
-use Rattle.kernel_model.specs.World.{World, Blocks, file_named}
-use Rattle.kernel_model.specs.Objects.{Objects, Accounts, Things, GraftValue, AcctValue, FrameValue}
-use Rattle.kernel_model.specs.Objects.{at, at2, at_kind, with_accounts, with_things}
-use Rattle.kernel_model.specs.Policies.{lives, next_process, or_zero}
-use Rattle.kernel_model.specs.Queue.{one_more_slice}
+use Rattle.kernel_data.specs.declared.Kind.{Kind}
+use Rattle.kernel_data.specs.declared.SysCall.{SysCall}
+use Rattle.kernel_data.specs.declared.SysCall.TheVariants.{Spawn, Exit, Yield, OpenName, CloseFd}
+use Rattle.kernel_data.specs.declared.SysCall.TheVariants.{Read, Write, Sync, TakeLock, FreeLock}
+use Rattle.kernel_data.specs.declared.SysCall.TheVariants.{Poke, Peek, Tune, Choose, Give, Install}
+use Rattle.kernel_data.specs.declared.SysCall.TheVariants.{Remove, Fund, Bill, Serve, StreamRead}
+use Rattle.kernel_data.specs.declared.SysCall.TheVariants.{StreamWrite}
+use Rattle.kernel_data.specs.declared.Refusal.{Refusal}
+use Rattle.kernel_data.specs.declared.Refusal.TheVariants.{NoProcess, BadPoint, BadIndex, Taken}
+use Rattle.kernel_data.specs.declared.Refusal.TheVariants.{NoGraft, Short, Full, NotHeld}
+use Rattle.kernel_data.specs.declared.Reply.TheVariants.{One}
+use Rattle.kernel_data.specs.declared.QueueRow.{QueueRow}
+use Rattle.kernel_data.specs.declared.OpenRow.{OpenRow}
+use Rattle.kernel_data.specs.World.{World, Blocks, file_named}
+use Rattle.kernel_data.specs.Objects.{Objects, Accounts, Things, GraftValue, AcctValue, FrameValue}
+use Rattle.kernel_data.specs.Objects.{at, at2, at_kind, with_accounts, with_things}
+use Rattle.kernel_data.specs.Policies.{lives, next_process, or_zero}
+use Rattle.kernel_data.specs.Queue.{one_more_slice}
 use Rattle.kernel_model.specs.Handlers.{handlers_without_process}
 use Rattle.kernel_model.specs.Access.{set_cell, set_param, set_segment, param_top, in_range}
 use Rattle.kernel_model.specs.Charges.{removed}
@@ -316,5 +316,5 @@ plain_upto top =
     }
 
 -- the meaning of the calls that are built: points up to `TOP_POINT`
-abbrev pub plain : Meaning
-plain = plain_upto TOP_POINT
+abbrev pub plain_calls : Meaning
+plain_calls = plain_upto TOP_POINT

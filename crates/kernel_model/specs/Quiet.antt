@@ -10,28 +10,28 @@ use Rattle.std.specs.List.{list_all}
 use Rattle.std.proofs.Common.{sym, ap, ◌∙◌}
 use mathlib.Core.Path.{fun_ext}
 use Rattle.std.proofs.lemmas.Cmp.{nat_eq_equiv}
-use Rattle.kernel_model.specs.declared.Need.{Need}
-use Rattle.kernel_model.specs.declared.Object.{Object}
-use Rattle.kernel_model.specs.declared.Mode.{Mode}
-use Rattle.kernel_model.specs.declared.Point.{Point}
-use Rattle.kernel_model.specs.declared.SysCall.{SysCall}
-use Rattle.kernel_model.specs.declared.Event.TheVariants.{Sys}
-use Rattle.kernel_model.specs.declared.Refusal.{Refusal}
-use Rattle.kernel_model.specs.declared.Refusal.TheVariants.{NoProcess}
-use Rattle.kernel_model.specs.declared.Note.TheVariants.{Refused}
-use Rattle.kernel_model.specs.Policies.{lives}
+use Rattle.kernel_data.specs.declared.Need.{Need}
+use Rattle.kernel_data.specs.declared.Object.{Object}
+use Rattle.kernel_data.specs.declared.Mode.{Mode}
+use Rattle.kernel_data.specs.declared.Point.{Point}
+use Rattle.kernel_data.specs.declared.SysCall.{SysCall}
+use Rattle.kernel_data.specs.declared.Event.TheVariants.{Sys}
+use Rattle.kernel_data.specs.declared.Refusal.{Refusal}
+use Rattle.kernel_data.specs.declared.Refusal.TheVariants.{NoProcess}
+use Rattle.kernel_data.specs.declared.Note.TheVariants.{Refused}
+use Rattle.kernel_data.specs.Policies.{lives}
 use Rattle.kernel_model.specs.Events.{event, sys_event, begun, last}
-use Rattle.kernel_model.specs.Objects.{Objects, at}
-use Rattle.kernel_model.specs.World.{World, ImageTable, Blocks, processes}
+use Rattle.kernel_data.specs.Objects.{Objects, at}
+use Rattle.kernel_data.specs.World.{World, ImageTable, Blocks, processes}
 use Rattle.kernel_model.specs.Meaning.{Meaning, Stage, Piece, After, Continues, EndsWith, Fails}
 use Rattle.kernel_model.specs.Locks.{Hindrance, hinders, lowest_holder, first_hindrance}
 use Rattle.kernel_model.specs.Locks.{hindrance_by, user_hindrance, user_of}
 use Rattle.kernel_model.specs.Levels.{Level, touched_at}
-use Rattle.kernel_model.specs.Kernel.{Kernel, Call, Entry, Run, new_entry, less_entry, is_at_piece}
+use Rattle.kernel_model.specs.Kernel.{Kernel, Call, Waiter, Run, new_entry, less_entry, is_at_piece}
 use Rattle.kernel_model.specs.Kernel.{call_after, gave_note, after_note, finish, requeue, noted}
 use Rattle.kernel_model.specs.Blocking.{levels_in, config_in, trace_of, levels_of, holds, needs_in, blocker_from}
 use Rattle.kernel_model.specs.GraftStep.{lock_user}
-use Rattle.kernel_model.specs.declared.Note.{Note}
+use Rattle.kernel_data.specs.declared.Note.{Note}
 use Rattle.kernel_model.specs.Settle.{finish_on, piece_at, piece_step, call_step, step, first_free, rested, settle}
 
 -- a kernel in which no call is in flight
@@ -250,7 +250,7 @@ less_alone : (p : ℕ) → less_entry p (new_entry p ∷ []) ≡ []
 less_alone p = ap (λ (b : Bool). cond (not b) (new_entry p ∷ []) []) (same_number p)
 
 -- a run after a piece, with these calls and this order
-abbrev run_with : (number : ℕ) → Piece → Run → (ℕ → Option Call) → List Entry → Run
+abbrev run_with : (number : ℕ) → Piece → Run → (ℕ → Option Call) → List Waiter → Run
 run_with number q r calls order =
     let l = left_by number q r in
     record l { kernel = record (l.kernel) { call = calls; order = order } }
@@ -269,11 +269,11 @@ run_goes p number t (Continues u) r order calls = refl
 run_goes p number t (EndsWith reply) r order calls =
     ap (λ (c : ℕ → Option Call). record r { kernel = record (r.kernel) { call = c; order = [] } })
     (at_none p ∙ calls)
-    ∙ ap (λ (o : List Entry). record r { kernel = record (r.kernel) { order = o } }) (sym order)
+    ∙ ap (λ (o : List Waiter). record r { kernel = record (r.kernel) { order = o } }) (sym order)
 run_goes p number t (Fails refusal) r order calls =
     ap (λ (c : ℕ → Option Call). record r { kernel = record (r.kernel) { call = c; order = [] } })
     (at_none p ∙ calls)
-    ∙ ap (λ (o : List Entry). record r { kernel = record (r.kernel) { order = o } }) (sym order)
+    ∙ ap (λ (o : List Waiter). record r { kernel = record (r.kernel) { order = o } }) (sym order)
 
 -- after its piece the call stands in the order where it goes on, and has left it where it has ended
 finished_alone : (p number : ℕ) (t : Stage) (q : Piece) (v : World) (images : ImageTable)
@@ -288,7 +288,7 @@ finished_alone p number t q v images s clock blocks notes io =
     let calls = at_twice p x (Some c) (λ q. None) in
     let stands =
     ap (λ (b : Bool). is_at_piece (cond b x (at p (Some c) (λ q. None) p))) (same_number p) in
-    ap (λ (o : List Entry). run_with number q r (at p x (at p (Some c) (λ q. None))) (o
+    ap (λ (o : List Waiter). run_with number q r (at p x (at p (Some c) (λ q. None))) (o
     ++ cond (is_at_piece (at p x (at p (Some c) (λ q. None)) p)) (new_entry p ∷ []) []))
     (less_alone p)
     ∙ ap (λ (b : Bool). run_with number q r (at p x (at p (Some c) (λ q. None)))

@@ -2,22 +2,22 @@
 use Rattle.std.specs.Prelude.{ℕ, suc, ◌==◌, List, [], ◌∷◌, ◌++◌, Option, None, Some, map, filter}
 use Rattle.std.specs.Prelude.{filter_map, flat_map, length, reverse, find, option_map}
 use Rattle.std.specs.List.{range_with_len}
-use Rattle.kernel_model.specs.declared.RawRow.{RawRow}
-use Rattle.kernel_model.specs.declared.WaitRow.{WaitRow}
-use Rattle.kernel_model.specs.declared.TopRow.{TopRow}
-use Rattle.kernel_model.specs.declared.FrameRow.{FrameRow}
-use Rattle.kernel_model.specs.declared.OpenRow.{OpenRow}
-use Rattle.kernel_model.specs.declared.FileRow.{FileRow}
+use Rattle.kernel_data.specs.declared.RawRow.{RawRow}
+use Rattle.kernel_data.specs.declared.WaitRow.{WaitRow}
+use Rattle.kernel_data.specs.declared.TopRow.{TopRow}
+use Rattle.kernel_data.specs.declared.FrameRow.{FrameRow}
+use Rattle.kernel_data.specs.declared.OpenRow.{OpenRow}
+use Rattle.kernel_data.specs.declared.FileRow.{FileRow}
 use Rattle.kernel_model.specs.Access.{Found}
-use Rattle.kernel_model.specs.declared.Kind.TheVariants.{Steps, Records, Locks}
-use Rattle.kernel_model.specs.World.{World, processes, file_row}
-use Rattle.kernel_model.specs.Objects.{Objects, GraftValue, FrameValue, PolValue}
-use Rattle.kernel_model.specs.Policies.{lives}
+use Rattle.kernel_data.specs.declared.Kind.TheVariants.{Steps, Records, Locks}
+use Rattle.kernel_data.specs.World.{World, processes, file_row}
+use Rattle.kernel_data.specs.Objects.{Objects, GraftValue, FrameValue, PolValue}
+use Rattle.kernel_data.specs.Policies.{lives}
 use Rattle.kernel_model.specs.Access.{param_top}
 use Rattle.kernel_model.specs.Meaning.{Meaning}
 use Rattle.kernel_model.specs.Levels.{Level}
 use Rattle.kernel_model.specs.UndoLog.{undo_log, numbered_log}
-use Rattle.kernel_model.specs.Kernel.{Kernel, Call, Entry, Blocker}
+use Rattle.kernel_model.specs.Kernel.{Kernel, Call, Waiter, Blocker}
 use Rattle.kernel_model.specs.Blocking.{levels_of}
 use Rattle.kernel_model.specs.InPlace.{in_place}
 
@@ -94,17 +94,17 @@ lock_row w u = option_map (λ p. RawRow.Lock u p) (w.things.lock u)
 -- ---- calls in flight
 
 -- an entry and its blocker
-abbrev pub wait_of : Entry → Blocker → WaitRow
+abbrev pub wait_of : Waiter → Blocker → WaitRow
 wait_of e b = record { object = b.object; holder = b.holder; count = e.count }
 
 -- what an entry waits for
-abbrev pub wait_by : Option Entry → Option WaitRow
+abbrev pub wait_by : Option Waiter → Option WaitRow
 wait_by None = None
 wait_by (Some e) = option_map (wait_of e) e.blocker
 
 -- what a process waits for
 abbrev pub wait_row : Kernel → ℕ → Option WaitRow
-wait_row k p = wait_by (find (λ (e : Entry). e.process == p) k.order)
+wait_row k p = wait_by (find (λ (e : Waiter). e.process == p) k.order)
 
 -- the innermost of these levels
 abbrev pub top_of : List Level → Option TopRow

@@ -1,16 +1,16 @@
 -- One step of a call, and steps of the first call in the order that nothing blocks, until every
 -- call in the order is blocked.
 use Rattle.std.specs.Prelude.{ℕ, zero, suc, true, false, List, [], ◌∷◌, ◌++◌, Option, Some, None, map}
-use Rattle.kernel_model.specs.declared.Point.{Point}
+use Rattle.kernel_data.specs.declared.Point.{Point}
 use Rattle.kernel_model.specs.declared.Micro.{Micro}
-use Rattle.kernel_model.specs.declared.Note.TheVariants.{Dropped}
-use Rattle.kernel_model.specs.Objects.{Objects, GraftValue}
+use Rattle.kernel_data.specs.declared.Note.TheVariants.{Dropped}
+use Rattle.kernel_data.specs.Objects.{Objects, GraftValue}
 use Rattle.kernel_model.specs.Meaning.{Meaning, Answer}
 use Rattle.kernel_model.specs.Locks.{LockTable}
 use Rattle.kernel_model.specs.Levels.{Outcome, answer_of}
 use Rattle.kernel_model.specs.GraftStep.{micro}
 use Rattle.kernel_model.specs.History.{Mark, Stepped, Trace, fallen}
-use Rattle.kernel_model.specs.Kernel.{Call, Blocker, Entry, Kernel, Run, finish, noted, requeue, with_marks}
+use Rattle.kernel_model.specs.Kernel.{Call, Blocker, Waiter, Kernel, Run, finish, noted, requeue, with_marks}
 use Rattle.kernel_model.specs.Blocking.{blocker_in, holds, same_blocker, trace_of}
 
 -- level 0 was lost: of what it did only accounts and grafts stay
@@ -19,7 +19,7 @@ lost_objects w s = record { accounts = w.accounts; things = s.things }
 
 -- An entry whose blocker is the kept one keeps its count; another keeps the new blocker with count
 -- 0.
-abbrev pub entry_with : Entry → Option Blocker → Entry
+abbrev pub entry_with : Waiter → Option Blocker → Waiter
 entry_with e b = elim (same_blocker e.blocker b) [
   | true ↦ e
   | false ↦ record { process = e.process; blocker = b; count = 0 }
@@ -91,7 +91,7 @@ module _ (m : Meaning) where
   -- ---- steps until all are blocked
 
   -- the first of these entries that nothing blocks, where the table tells what calls hold
-  abbrev pub first_free_in : Kernel → LockTable → List Entry → Option ℕ
+  abbrev pub first_free_in : Kernel → LockTable → List Waiter → Option ℕ
   first_free_in k locks [] = None
   first_free_in k locks (e ∷ es) =
       elim (blocker_in m k locks e.process) [
@@ -100,16 +100,16 @@ module _ (m : Meaning) where
       ]
 
   -- the first in the order that nothing blocks
-  abbrev pub first_free : Kernel → List Entry → Option ℕ
+  abbrev pub first_free : Kernel → List Waiter → Option ℕ
   first_free k [] = None
   first_free k (e ∷ es) = first_free_in k (holds m k) (e ∷ es)
 
   -- each entry with its blocker, where the table tells what calls hold
-  abbrev pub order_in : Kernel → LockTable → List Entry → List Entry
-  order_in k locks es = map (λ (e : Entry). entry_with e (blocker_in m k locks e.process)) es
+  abbrev pub order_in : Kernel → LockTable → List Waiter → List Waiter
+  order_in k locks es = map (λ (e : Waiter). entry_with e (blocker_in m k locks e.process)) es
 
   -- the order with its blockers
-  abbrev pub rested_order : Kernel → List Entry → List Entry
+  abbrev pub rested_order : Kernel → List Waiter → List Waiter
   rested_order k [] = []
   rested_order k (e ∷ es) = order_in k (holds m k) (e ∷ es)
 

@@ -5,16 +5,16 @@ use Rattle.std.specs.Prelude.{◌&&◌, nat_lt, List, [], ◌∷◌, Option, Som
 use Rattle.std.specs.Prelude.{Contains, ⊤}
 use Rattle.std.specs.List.{list_any}
 use Rattle.std.specs.Result.{is_ok}
-use Rattle.kernel_model.specs.declared.Object.{Object}
-use Rattle.kernel_model.specs.declared.Object.TheVariants.{Graft, Acct}
-use Rattle.kernel_model.specs.declared.Held.{Held}
-use Rattle.kernel_model.specs.declared.Kind.{Kind}
-use Rattle.kernel_model.specs.declared.QueueRow.{QueueRow}
-use Rattle.kernel_model.specs.declared.OpenRow.{OpenRow}
-use Rattle.kernel_model.specs.declared.FileRow.{FileRow}
-use Rattle.kernel_model.specs.World.{World, ImageTable, Blocks, file_row, blocks_of}
-use Rattle.kernel_model.specs.Objects.{Objects, Accounts, GraftValue, FrameValue, CacheValue, PolValue}
-use Rattle.kernel_model.specs.Policies.{lives}
+use Rattle.kernel_data.specs.declared.Object.{Object}
+use Rattle.kernel_data.specs.declared.Object.TheVariants.{Graft, Acct}
+use Rattle.kernel_data.specs.declared.Held.{Held}
+use Rattle.kernel_data.specs.declared.Kind.{Kind}
+use Rattle.kernel_data.specs.declared.QueueRow.{QueueRow}
+use Rattle.kernel_data.specs.declared.OpenRow.{OpenRow}
+use Rattle.kernel_data.specs.declared.FileRow.{FileRow}
+use Rattle.kernel_data.specs.World.{World, ImageTable, Blocks, file_row, blocks_of}
+use Rattle.kernel_data.specs.Objects.{Objects, Accounts, GraftValue, FrameValue, CacheValue, PolValue}
+use Rattle.kernel_data.specs.Policies.{lives}
 use Rattle.kernel_model.specs.Handlers.{is_handler, AreHandlers}
 use Rattle.kernel_model.specs.Access.{Found, param_top, changed_by}
 use Rattle.kernel_model.specs.Early.{policy_count}
@@ -24,7 +24,7 @@ use Rattle.kernel_model.specs.GraftStep.{record_count}
 use Rattle.kernel_model.specs.UndoLog.{undo_log, kept_by_log}
 use Rattle.kernel_model.specs.InPlace.{is_changed_in}
 use Rattle.kernel_model.specs.History.{Mark}
-use Rattle.kernel_model.specs.Kernel.{Call, Entry, Kernel, is_at_piece}
+use Rattle.kernel_model.specs.Kernel.{Call, Waiter, Kernel, is_at_piece}
 use Rattle.kernel_model.specs.Blocking.{trace_of, config_of, levels_of, holds, needs, blocker}
 
 -- ---- amounts and counts
@@ -202,7 +202,7 @@ clash Held.Exclusive h = true
 
 -- the processes in the order of waiting
 abbrev pub in_the_order : Kernel → List ℕ
-in_the_order k = map (λ (e : Entry). e.process) k.order
+in_the_order k = map (λ (e : Waiter). e.process) k.order
 
 -- An abstract kernel is sound where its state is, its histories can be replayed, its calls stand at
 -- fitting stages, and the order has whom it must.
@@ -227,11 +227,11 @@ pub record IsSoundKernel (m : Meaning) (k : Kernel) : Type 0 where
   pub pieces : (p : ℕ) → is_at_piece (k.call p) ≡ true → count_of p (in_the_order k) ≡ 1
   -- each other entry is a call that stands there once, and whose next instruction is a call that
   -- needs an object
-  pub others : (e : Entry) → Contains k.order e → is_at_piece (k.call e.process) ≡ false →
+  pub others : (e : Waiter) → Contains k.order e → is_at_piece (k.call e.process) ≡ false →
       (count_of e.process (in_the_order k) ≡ 1) × (1 ≤ length (levels_of m k e.process))
       × (1 ≤ length (needs m k e.process))
 
 -- a kernel is at rest where each entry of the order is blocked by what it keeps as its blocker
 abbrev pub IsAtRest : Meaning → Kernel → Type 0
-IsAtRest m k = (e : Entry) → Contains k.order e → (is_some e.blocker ≡ true)
+IsAtRest m k = (e : Waiter) → Contains k.order e → (is_some e.blocker ≡ true)
     × (blocker m k e.process ≡ e.blocker)

@@ -4,16 +4,16 @@
 use Rattle.std.specs.Prelude.{ℕ, zero, suc, ◌+◌, ◌-◌, Bool, true, false, cond, ◌&&◌, ◌||◌, ◌==◌}
 use Rattle.std.specs.Prelude.{nat_le, nat_lt, List, [], ◌∷◌, length, slice_range, Option, Some}
 use Rattle.std.specs.Prelude.{None, Result, Ok, Err}
-use Rattle.kernel_model.specs.declared.Need.{Need}
-use Rattle.kernel_model.specs.declared.Point.{Point}
-use Rattle.kernel_model.specs.declared.Object.TheVariants.{OpenFile}
-use Rattle.kernel_model.specs.declared.SysCall.{SysCall}
-use Rattle.kernel_model.specs.declared.SysCall.TheVariants.{Read, Write, Install, Remove, Fund}
-use Rattle.kernel_model.specs.declared.SysCall.TheVariants.{Bill, StreamRead, StreamWrite}
-use Rattle.kernel_model.specs.declared.Refusal.{Refusal}
-use Rattle.kernel_model.specs.declared.Refusal.TheVariants.{BadPoint}
-use Rattle.kernel_model.specs.World.{World, ImageTable, Blocks}
-use Rattle.kernel_model.specs.Objects.{Objects, Things}
+use Rattle.kernel_data.specs.declared.Need.{Need}
+use Rattle.kernel_data.specs.declared.Point.{Point}
+use Rattle.kernel_data.specs.declared.Object.TheVariants.{OpenFile}
+use Rattle.kernel_data.specs.declared.SysCall.{SysCall}
+use Rattle.kernel_data.specs.declared.SysCall.TheVariants.{Read, Write, Install, Remove, Fund}
+use Rattle.kernel_data.specs.declared.SysCall.TheVariants.{Bill, StreamRead, StreamWrite}
+use Rattle.kernel_data.specs.declared.Refusal.{Refusal}
+use Rattle.kernel_data.specs.declared.Refusal.TheVariants.{BadPoint}
+use Rattle.kernel_data.specs.World.{World, ImageTable, Blocks}
+use Rattle.kernel_data.specs.Objects.{Objects, Things}
 use Rattle.kernel_model.specs.Meaning.{Meaning, Stage, Answer, Piece, Continues, registers_of}
 use Rattle.kernel_model.specs.Early.{call_refusal, begins_unless}
 use Rattle.kernel_model.specs.Needs.{shared, point_needs, fetch_needs, fetch_ask, file_block, piece_needs, piece_ask}

@@ -2,7 +2,7 @@
 -- of lists: innermost level first, newest first within a level. What a level found when it began is
 -- what is left when the log is undone on the way outwards.
 use Rattle.std.specs.Prelude.{ℕ, List, [], ◌∷◌, ◌++◌, true, false, nat_le, length, map}
-use Rattle.kernel_model.specs.Objects.{Objects, Things}
+use Rattle.kernel_data.specs.Objects.{Objects, Things}
 use Rattle.kernel_model.specs.Access.{Found, undo}
 use Rattle.kernel_model.specs.Levels.{Level}
 

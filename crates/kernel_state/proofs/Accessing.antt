@@ -1,61 +1,51 @@
 -- What the accessors of grafts look at and change.
-use Rattle.std.proofs.Common.{◌≡◌, ℕ, zero, suc, ◌+◌, ◌<◌, ◌≤◌, ◌==◌, ◌||◌, Bool, true, false, cond, List, [], ◌∷◌, length, get_or, drop, map, filter, Option, Some, None, nat_le, refl, arith, sym, ◌∙◌, ap}
+use Rattle.std.proofs.Common.{◌≡◌, ℕ, zero, suc, ◌+◌, ◌<◌, ◌≤◌, ◌==◌, ◌||◌, Bool, true, false}
+use Rattle.std.proofs.Common.{cond, List, [], ◌∷◌, length, get_or, drop, map, filter, Option, Some}
+use Rattle.std.proofs.Common.{None, nat_le, refl, arith, sym, ◌∙◌, ap}
 use Rattle.std.specs.List.{list_any, list_all}
 use Rattle.std.specs.Option.{is_some}
 use Rattle.std.specs.Result.{is_ok}
 use Rattle.std.proofs.lemmas.Bool.Decides.{nat_tests}
 use Rattle.std.proofs.lemmas.List.{get_or_past}
-use Rattle.kernel_model.specs.declared.FrameRow.{FrameRow}
-use Rattle.kernel_model.specs.declared.QueueRow.{QueueRow}
-use Rattle.kernel_model.specs.Access.{Access as Accessed, Gives, Changes, Refuses}
-use Rattle.kernel_model.specs.Objects.{Objects, Things, CacheValue, with_things}
-use Rattle.kernel_model.specs.Policies.{lives, nice_of, first_nice, is_owned, frames_of}
+use Rattle.kernel_data.specs.declared.FrameRow.{FrameRow}
+use Rattle.kernel_data.specs.declared.QueueRow.{QueueRow}
+use Rattle.kernel_data.specs.Objects.{Objects, Things, CacheValue, with_things}
+use Rattle.kernel_data.specs.Policies.{lives, nice_of, first_nice, is_owned, frames_of}
 use Rattle.kernel_model.specs.Access.{with_nice}
 use Rattle.buffer_cache.specs.Frames.{Frames, row_at, in_use, IsFrames}
-use Rattle.kernel_state.specs.Accesses.{answer_of, things_after}
 
 -- ---- nices
 
--- the nice of a process among the rows from a place on
-pub nice_from : (rows : List QueueRow) (k p : ℕ) (d : QueueRow) → k < length rows
-    → nice_of (drop k rows) p ≡ cond ((get_or rows k d).process == p) (get_or rows k d).nice (nice_of (drop (k + 1) rows) p)
-nice_from [] k p d lt = absurd (omega arith)
-nice_from (r ∷ rows) zero p d lt = by_case (r.process == p)
-  where
-    by_case : (b : Bool) → first_nice (cond b (r ∷ filter (λ (x : QueueRow). x.process == p) rows) (filter (λ (x : QueueRow). x.process == p) rows)) ≡ cond b r.nice (nice_of rows p)
-    by_case true = refl
-    by_case false = refl
-nice_from (r ∷ rows) (suc k) p d lt = let one : suc k + 1 ≡ suc (k + 1) = omega arith in rw one (nice_from rows k p d (omega arith))
-
-pub nice_ends : (rows : List QueueRow) (k p : ℕ) → length rows ≤ k → nice_of (drop k rows) p ≡ 0
-nice_ends [] zero p le = refl
-nice_ends [] (suc k) p le = refl
-nice_ends (r ∷ rows) zero p le = absurd (omega arith)
-nice_ends (r ∷ rows) (suc k) p le = nice_ends rows k p (omega arith)
-
 -- where all nices are at most 39, that of a process is
-pub nice_below : (rows : List QueueRow) (p : ℕ) → list_all (λ (r : QueueRow). nat_le r.nice 39) rows ≡ true → nice_of rows p ≤ 39
+pub nice_below : (rows : List QueueRow) (p : ℕ) →
+    list_all (λ (r : QueueRow). nat_le r.nice 39) rows ≡ true → nice_of rows p ≤ 39
 nice_below [] p h = omega arith
 nice_below (r ∷ rows) p h = by_case (r.process == p) (nice_below rows p (later h))
   where
-    later : list_all (λ (x : QueueRow). nat_le x.nice 39) (r ∷ rows) ≡ true → list_all (λ (x : QueueRow). nat_le x.nice 39) rows ≡ true
+    later : list_all (λ (x : QueueRow). nat_le x.nice 39) (r ∷ rows) ≡ true →
+        list_all (λ (x : QueueRow). nat_le x.nice 39) rows ≡ true
     later all = grind (arith, nat_tests, all)
 
     here : r.nice ≤ 39
     here = grind (arith, nat_tests, h)
 
-    by_case : (b : Bool) → nice_of rows p ≤ 39 → first_nice (cond b (r ∷ filter (λ (x : QueueRow). x.process == p) rows) (filter (λ (x : QueueRow). x.process == p) rows)) ≤ 39
+    by_case : (b : Bool) → nice_of rows p ≤ 39 →
+        first_nice (cond b (r ∷ filter (λ (x : QueueRow). x.process == p) rows)
+        (filter (λ (x : QueueRow). x.process == p) rows)) ≤ 39
     by_case true rest = here
     by_case false rest = rest
 
 -- a row with another nice is of its process
-same_process : (b : Bool) (r : QueueRow) (v q : ℕ) → ((cond b (record r { nice = v }) r).process == q) ≡ (r.process == q)
+same_process : (b : Bool) (r : QueueRow) (v q : ℕ) →
+    ((cond b (record r { nice = v }) r).process == q) ≡ (r.process == q)
 same_process true r v q = refl
 same_process false r v q = refl
 
 pub lives_nice : (p v q : ℕ) (rows : List QueueRow) → lives (with_nice p v rows) q ≡ lives rows q
 lives_nice p v q [] = refl
-lives_nice p v q (r ∷ rows) = ap (λ b. b || lives (with_nice p v rows) q) (same_process (r.process == p) r v q) ∙ ap (λ b. (r.process == q) || b) (lives_nice p v q rows)
+lives_nice p v q (r ∷ rows) =
+    ap (λ b. b || lives (with_nice p v rows) q) (same_process (r.process == p) r v q)
+    ∙ ap (λ b. (r.process == q) || b) (lives_nice p v q rows)
 
 -- ---- frames
 
@@ -76,36 +66,35 @@ passes : (p : ℕ → Bool) (fs : List ℕ) (f : ℕ) → list_any (λ g. g == f
 passes p [] f h = absurd (cc)
 passes p (g ∷ fs) f h = go (p g) refl (passes p fs f) h
   where
-    here : (b : Bool) → (g == f) ≡ b → p g ≡ true → (list_any (λ k. k == f) (filter p fs) ≡ true → p f ≡ true) → (b || list_any (λ k. k == f) (filter p fs)) ≡ true → p f ≡ true
+    here : (b : Bool) → (g == f) ≡ b → p g ≡ true →
+        (list_any (λ k. k == f) (filter p fs) ≡ true → p f ≡ true) →
+        (b || list_any (λ k. k == f) (filter p fs)) ≡ true → p f ≡ true
     here true same e later any = let one : f ≡ g = grind (arith, nat_tests, same) in ap p one ∙ e
     here false same e later any = later any
 
-    go : (b : Bool) → p g ≡ b → (list_any (λ k. k == f) (filter p fs) ≡ true → p f ≡ true) → list_any (λ k. k == f) (cond b (g ∷ filter p fs) (filter p fs)) ≡ true → p f ≡ true
+    go : (b : Bool) → p g ≡ b → (list_any (λ k. k == f) (filter p fs) ≡ true → p f ≡ true) →
+        list_any (λ k. k == f) (cond b (g ∷ filter p fs) (filter p fs)) ≡ true → p f ≡ true
     go false e later any = later any
     go true e later any = here (g == f) refl e later any
 
-any_frame : (rows : List FrameRow) (f : ℕ) → list_any (λ (r : FrameRow). r.frame == f) rows ≡ list_any (λ g. g == f) (map (λ (r : FrameRow). r.frame) rows)
+any_frame : (rows : List FrameRow) (f : ℕ) → list_any (λ (r : FrameRow). r.frame == f) rows
+    ≡ list_any (λ g. g == f) (map (λ (r : FrameRow). r.frame) rows)
 any_frame [] f = refl
 any_frame (r ∷ rows) f = ap (λ b. (r.frame == f) || b) (any_frame rows f)
 
 -- a frame that stands in a row is of the process
-pub stands_owned : (c : CacheValue) (q f : ℕ) (rows slice : List FrameRow) → map (λ (r : FrameRow). r.frame) rows ≡ frames_of c q → slice ≡ rows →
+pub stands_owned : (c : CacheValue) (q f : ℕ) (rows slice : List FrameRow) →
+    map (λ (r : FrameRow). r.frame) rows ≡ frames_of c q → slice ≡ rows →
     list_any (λ (r : FrameRow). r.frame == f) slice ≡ true → is_owned c q f ≡ true
 stands_owned c q f rows slice is same any =
-    passes (λ g. is_owned c q g) c.lru f (ap (λ gs. list_any (λ g. g == f) gs) (sym is) ∙ sym (any_frame rows f) ∙ ap (λ xs. list_any (λ (r : FrameRow). r.frame == f) xs) (sym same) ∙ any)
+    passes (λ g. is_owned c q g) c.lru f
+    (ap (λ gs. list_any (λ g. g == f) gs) (sym is) ∙ sym (any_frame rows f)
+    ∙ ap (λ xs. list_any (λ (r : FrameRow). r.frame == f) xs) (sym same) ∙ any)
 
 -- where there are no rows the process has no frame
-pub none_owned : (c : CacheValue) (q : ℕ) (rows : List FrameRow) → map (λ (r : FrameRow). r.frame) rows ≡ frames_of c q → length rows ≡ 0 → frames_of c q ≡ []
+pub none_owned : (c : CacheValue) (q : ℕ) (rows : List FrameRow) →
+    map (λ (r : FrameRow). r.frame) rows ≡ frames_of c q → length rows ≡ 0 → frames_of c q ≡ []
 none_owned c q [] is none = sym is
 none_owned c q (r ∷ rows) is none = absurd (cc)
 
 -- ---- accessors
-
--- where an accessor is refused nothing changes
-refused_same : (a : Accessed) (w : Things) → is_ok (answer_of a) ≡ false → things_after a w ≡ w
-refused_same (Gives result) w is = absurd (cc)
-refused_same (Changes result inverse u) w is = absurd (cc)
-refused_same (Refuses cause) w is = refl
-
-pub refused_objects : (a : Accessed) (s : Objects) → is_ok (answer_of a) ≡ false → s ≡ with_things (things_after a s.things) s
-refused_objects a s is = ap (λ (w : Things). with_things w s) (sym (refused_same a s.things is))

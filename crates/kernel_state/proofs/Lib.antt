@@ -8,6 +8,5 @@ pub mod Queues
 pub mod Rows
 pub mod Leaving
 pub mod Accessing
-pub mod Undoing
 pub mod Params
 pub mod Keeping

@@ -1,8 +1,8 @@
 -- The rows of the frames and the memory as one cache of the kernel's state.
 use Rattle.std.specs.Prelude.{◌≡◌, ℕ, ◌+◌, ◌*◌, ◌≤◌, true, false, List, Option, IfSome, IfNone, option_map, slice_range}
-use Rattle.kernel_model.specs.declared.FrameRow.{FrameRow}
-use Rattle.kernel_model.specs.Objects.{FrameValue, CacheValue, PolValue}
-use Rattle.kernel_model.specs.Policies.{victim_key, victim_among}
+use Rattle.kernel_data.specs.declared.FrameRow.{FrameRow}
+use Rattle.kernel_data.specs.Objects.{FrameValue, CacheValue, PolValue}
+use Rattle.kernel_data.specs.Policies.{victim_key, victim_among}
 use Rattle.buffer_cache.specs.Frames.{Frames, row_at, in_use}
 
 -- the bytes of frame f

@@ -1,8 +1,8 @@
 -- What the calls that change a store say of it before and after.
 use Rattle.std.specs.Prelude.{◌≡◌, ℕ}
-use Rattle.kernel_model.specs.Objects.{Objects, Things, CacheValue, with_things}
+use Rattle.kernel_data.specs.Objects.{Objects, Things, CacheValue, with_things}
 use Rattle.kernel_model.specs.FilePieces.{with_cache}
-use Rattle.kernel_model.specs.Policies.{lives}
+use Rattle.kernel_data.specs.Policies.{lives}
 use Rattle.kernel_state.specs.declared.Store.{Store}
 use Rattle.kernel_state.specs.Stores.{objects_of, world_of_store, cache_of, queue_of, views_of, SegmentsStay}
 

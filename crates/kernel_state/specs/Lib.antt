@@ -1,6 +1,14 @@
+pub use Rattle.buffer_cache.specs.Frames
+pub use Rattle.graft_accounts.specs.Table
+pub use Rattle.graft_points.specs.Shelf
+pub use Rattle.graft_points.specs.Views
+pub use Rattle.mem_disk.specs.Calls
+pub use Rattle.mem_disk.specs.Joined
+pub use Rattle.process_table.specs.Processes
+pub use Rattle.ram_space.specs.Tables
+pub use Rattle.vino_base.specs.Disks
 pub mod CacheViews
 pub mod Stores
-pub mod Accesses
 pub mod Sound
 pub mod Changes
 pub mod Places

@@ -1,7 +1,7 @@
 -- What a call asks of the places that it names.
 use Rattle.std.specs.Prelude.{◌≡◌, ℕ, ◌<◌, true, List}
-use Rattle.kernel_model.specs.declared.QueueRow.{QueueRow}
-use Rattle.kernel_model.specs.Policies.{lives}
+use Rattle.kernel_data.specs.declared.QueueRow.{QueueRow}
+use Rattle.kernel_data.specs.Policies.{lives}
 
 -- process p lives, and has this cell
 pub record HasCell (queue : List QueueRow) (p k : ℕ) : Type 0 where

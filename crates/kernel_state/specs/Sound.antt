@@ -1,14 +1,14 @@
 -- The world and the things of a store, and what always holds of them.
 use Rattle.std.specs.Prelude.{◌≡◌, ℕ, ◌+◌, ◌*◌, ◌<◌, ◌≤◌, ◌&&◌, nat_lt, true, cond, List, Option}
 use Rattle.std.specs.Prelude.{Some, None, slice_index_or}
-use Rattle.kernel_model.specs.declared.TheConstants.{LAST_CALLABLE}
-use Rattle.kernel_model.specs.declared.FileRow.{FileRow}
-use Rattle.kernel_model.specs.declared.OpenRow.{OpenRow}
-use Rattle.kernel_model.specs.World.{World, file_row}
-use Rattle.kernel_model.specs.Objects.{Things, CacheValue, FrameValue, PolValue}
-use Rattle.kernel_model.specs.Directory.{lies_on_disk}
+use Rattle.kernel_data.specs.declared.TheConstants.{LAST_CALLABLE}
+use Rattle.kernel_data.specs.declared.FileRow.{FileRow}
+use Rattle.kernel_data.specs.declared.OpenRow.{OpenRow}
+use Rattle.kernel_data.specs.World.{World, file_row}
+use Rattle.kernel_data.specs.Objects.{Things, CacheValue, FrameValue, PolValue}
+use Rattle.kernel_data.specs.Directory.{lies_on_disk}
 use Rattle.kernel_model.specs.Sound.{IsSoundFile}
-use Rattle.segments.specs.Tables.{Table, segment_at}
+use Rattle.ram_space.specs.Tables.{Table, segment_at}
 use Rattle.process_table.specs.Processes.{Processes}
 use Rattle.kernel_state.specs.declared.Setup.{Setup}
 

@@ -1,12 +1,12 @@
 -- Which objects and which world a store stands for.
 use Rattle.std.specs.Prelude.{◌≡◌, ℕ, ◌≤◌, List, [], ◌∷◌, ◌++◌, Option, Some, None, slice_index}
-use Rattle.kernel_model.specs.declared.QueueRow.{QueueRow}
-use Rattle.kernel_model.specs.World.{World}
-use Rattle.kernel_model.specs.Objects.{Objects, Accounts, CacheValue, PolValue, with_things}
+use Rattle.kernel_data.specs.declared.QueueRow.{QueueRow}
+use Rattle.kernel_data.specs.World.{World}
+use Rattle.kernel_data.specs.Objects.{Objects, Accounts, CacheValue, PolValue, with_things}
 use Rattle.kernel_model.specs.Access.{set_segment}
 use Rattle.kernel_model.specs.Levels.{base_of, body_in_segment}
 use Rattle.kernel_model.specs.Runs.{segment_of}
-use Rattle.segments.specs.Tables.{Table}
+use Rattle.ram_space.specs.Tables.{Table}
 use Rattle.process_table.specs.Processes.{Processes, processes_of}
 use Rattle.graft_accounts.specs.Table.{accounts_of}
 use Rattle.graft_points.specs.Views.{PolicyView}

@@ -2,8 +2,8 @@
 
 ghost use Rattle.std.specs.Prelude.{◌≡◌, ◌↔◌, ◌<◌, ◌≤◌, ℕ, true, false, None, is_some};
 ghost use Rattle.kernel_model.specs.Charges.{removed};
-ghost use Rattle.kernel_model.specs.Objects.{with_accounts};
-ghost use Rattle.kernel_model.specs.Policies.{lives};
+ghost use Rattle.kernel_data.specs.Objects.{with_accounts};
+ghost use Rattle.kernel_data.specs.Policies.{lives};
 ghost use Rattle.kernel_model.specs.Pieces.{with_new_graft, new_graft};
 ghost use Rattle.graft_accounts.specs.Table.{standing_at, short_of, after_give, after_fund, after_bill};
 ghost use Rattle.kernel_state.specs.Changes.{Changes};
@@ -13,7 +13,7 @@ ghost use Rattle.kernel_state.specs.Stores.{objects_of, queue_of};
 use crate::Store;
 use graft_accounts::GraftPoint;
 use graft_points::Policy;
-use kernel_model::Kind;
+use kernel_data::Kind;
 
 impl<B: Policy> Store<B> {
     /// Moves n from process p to process q. Err has the balance of p, with nothing changed, exactly

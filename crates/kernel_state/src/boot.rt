@@ -12,8 +12,7 @@ use graft_accounts::Accounts;
 use graft_points::{Choice, Policy, Shelf};
 use mem_disk::Directory;
 use process_table::Procs;
-use ram_space::Ram;
-use segments::Segments;
+use ram_space::{Ram, Segments};
 
 impl<B: Policy> Store<B> {
     /// The store after boot, on a disk of 1 to 4,096 blocks with this directory: process 0 lives

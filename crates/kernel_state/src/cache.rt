@@ -2,14 +2,14 @@
 
 ghost use Rattle.std.specs.Prelude.{◌≡◌, ℕ, ◌+◌, ◌*◌, ◌<◌, ◌≤◌, true, false, length, Some, None};
 ghost use Rattle.std.specs.Prelude.{IfSome, IfNone, slice_range, option_map, map, filter_map};
-ghost use Rattle.kernel_model.specs.Objects.{FrameValue};
+ghost use Rattle.kernel_data.specs.Objects.{FrameValue};
 ghost use Rattle.kernel_model.specs.Needs.{frame_of_block, free_frame, owner_asked};
-ghost use Rattle.kernel_model.specs.Policies.{lives, victim_among};
+ghost use Rattle.kernel_data.specs.Policies.{lives, victim_among};
 ghost use Rattle.kernel_model.specs.Fetch.{used, filled, new_frame, replaced, with_patch, cleaned};
 ghost use Rattle.kernel_model.specs.Fetch.{bytes_of, dirty_value};
 ghost use Rattle.kernel_model.specs.FilePieces.{with_cache};
 ghost use Rattle.kernel_model.specs.RawRows.{frame_row_of};
-ghost use Rattle.kernel_model.specs.declared.FrameRow.{FrameRow as Row};
+ghost use Rattle.kernel_data.specs.declared.FrameRow.{FrameRow as Row};
 ghost use Rattle.buffer_cache.specs.Frames.{in_use, row_at};
 ghost use Rattle.kernel_state.specs.CacheViews.{IsCandidate, IsLeastKey};
 ghost use Rattle.kernel_state.specs.Changes.{Changes, ChangesFrames};
@@ -18,7 +18,7 @@ ghost use Rattle.kernel_state.specs.Stores.{world_of_store, objects_of, cache_of
 use crate::Store;
 use buffer_cache::Cache;
 use graft_points::Policy;
-use kernel_model::{BLOCK_BYTES, Bytes, FrameRow, FrameRows};
+use kernel_data::{BLOCK_BYTES, Bytes, FrameRow, FrameRows};
 use ram_space::Ram;
 
 impl<B: Policy> Store<B> {

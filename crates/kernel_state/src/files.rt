@@ -1,8 +1,8 @@
 //! The open files of a store, and the blocks that they name.
 
 ghost use Rattle.std.specs.Prelude.{◌≡◌, ◌+◌, ◌<◌, ◌≤◌, true, Some, None, Ok, IfSome, IfOk};
-ghost use Rattle.kernel_model.specs.World.{file_named, blocks_of};
-ghost use Rattle.kernel_model.specs.Policies.{lives, ahead_default};
+ghost use Rattle.kernel_data.specs.World.{file_named, blocks_of};
+ghost use Rattle.kernel_data.specs.Policies.{lives, ahead_default};
 ghost use Rattle.kernel_model.specs.Needs.{file_block, ahead_block, is_within};
 ghost use Rattle.kernel_model.specs.FilePieces.{with_file, free_descriptor as lowest_free, new_file};
 ghost use Rattle.kernel_model.specs.FilePieces.{read_on, with_ahead};
@@ -14,7 +14,7 @@ ghost use Rattle.kernel_state.specs.Stores.{world_of_store, objects_of, queue_of
 
 use crate::{Ahead, Store};
 use graft_points::Policy;
-use kernel_model::{BLOCK_BYTES, FileRow, OpenRow, Refusal};
+use kernel_data::{BLOCK_BYTES, FileRow, OpenRow, Refusal};
 
 impl<B: Policy> Store<B> {
     /// The usable file of this name, as it is when it was just opened.

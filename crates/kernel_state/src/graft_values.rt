@@ -4,11 +4,11 @@
 ghost use Rattle.std.specs.Prelude.{◌≡◌, ◌<◌, ◌≤◌, true, Some, [], length, nat_le, map, is_some};
 ghost use Rattle.std.specs.Prelude.{slice_get, IfSome, IfNone};
 ghost use Rattle.std.specs.List.{list_all};
-ghost use Rattle.kernel_model.specs.declared.FrameRow.{FrameRow as Row};
-ghost use Rattle.kernel_model.specs.declared.QueueRow.{QueueRow as Waiting};
+ghost use Rattle.kernel_data.specs.declared.FrameRow.{FrameRow as Row};
+ghost use Rattle.kernel_data.specs.declared.QueueRow.{QueueRow as Waiting};
 ghost use Rattle.kernel_model.specs.Access.{set_nice as nice_set, set_window as window_set, set_mark as mark_set};
-ghost use Rattle.kernel_model.specs.Objects.{with_things};
-ghost use Rattle.kernel_model.specs.Policies.{lives, nice_of, is_owned, frames_of, victim_among};
+ghost use Rattle.kernel_data.specs.Objects.{with_things};
+ghost use Rattle.kernel_data.specs.Policies.{lives, nice_of, is_owned, frames_of, victim_among};
 ghost use Rattle.buffer_cache.specs.Frames.{in_use, row_at};
 ghost use Rattle.kernel_state.specs.Changes.{Changes};
 ghost use Rattle.kernel_state.specs.Places.{HasDescriptor};
@@ -16,7 +16,7 @@ ghost use Rattle.kernel_state.specs.Stores.{objects_of, cache_of, queue_of, poli
 
 use crate::Store;
 use graft_points::Policy;
-use kernel_model::{FRAMES, FrameRow, FrameRows, OpenRow, QueueRow};
+use kernel_data::{FRAMES, FrameRow, FrameRows, OpenRow, QueueRow};
 
 impl<B: Policy> Store<B> {
     /// The nice of process q. 0 where it doesn't live.
@@ -28,7 +28,7 @@ impl<B: Policy> Store<B> {
     }
 
     /// Gives process q, which lives, another nice.
-    pub(crate) fn set_nice(&mut self, q: u8, v: u8)
+    pub fn set_nice(&mut self, q: u8, v: u8)
         requires lives { lives (queue_of self.old) q ≡ true }
         requires range { v ≤ 39 }
         ensures { Changes (λ s. with_things (nice_set q v s.things) s) self.old self.new }
@@ -37,7 +37,7 @@ impl<B: Policy> Store<B> {
     }
 
     /// Gives the file that is open at descriptor fd of process q another window.
-    pub(crate) fn set_window(&mut self, q: u8, fd: u8, v: u8)
+    pub fn set_window(&mut self, q: u8, fd: u8, v: u8)
         requires place { HasDescriptor (queue_of self.old) q fd }
         requires opened { is_some ((objects_of self.old).things.file q fd) ≡ true }
         requires range { v ≤ 8 }
@@ -49,7 +49,7 @@ impl<B: Policy> Store<B> {
     }
 
     /// Gives frame f, which is in use, another mark.
-    pub(crate) fn set_mark(&mut self, f: u32, v: u8)
+    pub fn set_mark(&mut self, f: u32, v: u8)
         requires in_cache { in_use f self.old.cache ≡ true }
         ensures { Changes (λ s. with_things (mark_set f v s.things) s) self.old self.new }
     {
@@ -60,7 +60,7 @@ impl<B: Policy> Store<B> {
     }
 
     /// What frame f holds, if it is in use.
-    pub(crate) fn row(&self, f: u32) -> Option<FrameRow>
+    pub fn row(&self, f: u32) -> Option<FrameRow>
         ensures value { result ≡ row_at self.now.cache.rows f }
         ensures number { IfSome result (λ r. r.frame ≡ f) }
     {

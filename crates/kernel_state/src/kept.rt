@@ -4,7 +4,7 @@ ghost use Rattle.std.specs.Prelude.{◌≡◌, ◌<◌, ◌≤◌, ◌+◌, ◌%
 ghost use Rattle.std.specs.Option.{option_copied};
 ghost use Rattle.kernel_model.specs.Runs.{segment_of};
 ghost use Rattle.ram_space.specs.declared.TheConstants.{RAM_BYTES};
-ghost use Rattle.segments.specs.Tables.{by_place};
+ghost use Rattle.ram_space.specs.Tables.{by_place};
 ghost use Rattle.kernel_state.specs.Sound as spec;
 ghost use Rattle.kernel_state.specs.Changes.{Changes};
 ghost use Rattle.kernel_state.specs.Stores.{with_kept};
@@ -12,7 +12,7 @@ ghost use Rattle.kernel_state.specs.Stores.{with_kept};
 use crate::Store;
 use graft_accounts::GraftPoint;
 use graft_points::Policy;
-use segments::SEGMENT_BYTES;
+use ram_space::SEGMENT_BYTES;
 
 impl<B: Policy> Store<B> {
     /// Keeps the 4,096 bytes of memory from a place on, a page, for the graft at a point.
@@ -34,7 +34,7 @@ impl<B: Policy> Store<B> {
     }
 
     /// These 4,096 bytes are kept for the graft at a point, or none.
-    pub(crate) fn put_segment(&mut self, at: GraftPoint, bytes: Option<&[u8]>)
+    pub fn put_segment(&mut self, at: GraftPoint, bytes: Option<&[u8]>)
         requires { IfSome bytes (λ b. length b.now ≡ 4096) }
         ensures { Changes (with_kept at.process at.point (by_place (option_copied bytes.entry)))
             self.old self.new }

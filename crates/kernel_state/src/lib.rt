@@ -11,7 +11,6 @@ ghost use Rattle.process_table.specs.Processes.{processes_of};
 ghost use Rattle.graft_points.specs.Shelf.{IsShelf, pol_of};
 ghost use Rattle.kernel_state.specs.CacheViews.{cache_value};
 
-mod accessors;
 mod accounts;
 mod boot;
 mod cache;
@@ -23,14 +22,14 @@ mod processes;
 mod shown;
 
 use buffer_cache::Cache;
-use graft_accounts::Accounts;
-use graft_points::{Choice, Policy, Shelf};
+pub use graft_accounts::{Accounts, GraftPoint, GraftRow};
+use graft_points::Choice;
+pub use graft_points::{Policy, Shelf, valid_ahead};
 pub use kept::segment_number;
-use kernel_model::Inverse;
-use mem_disk::Directory;
+pub use mem_disk::{Directory, DiskLog, read_directory};
 use process_table::Procs;
-use ram_space::Ram;
-use segments::Segments;
+pub use ram_space::{RAM_BYTES, Ram, Segments};
+pub use vino_base::{Disk, Failed};
 
 /// What the set-up lines of a script set.
 #[derive(Clone, Copy)]
@@ -77,12 +76,4 @@ pub struct Store<B: Policy> {
 pub struct Ahead {
     pub start: u32,
     pub count: u8,
-}
-
-/// What a plain accessor of a graft gives where it isn't refused: a result, and what undoes its
-/// change if it changes something.
-#[derive(Clone, Copy)]
-pub struct Access {
-    pub result: u32,
-    pub inverse: Option<Inverse>,
 }

@@ -1,7 +1,7 @@
 //! The policies of a store: which one of each kind is chosen, and its parameter.
 
 ghost use Rattle.std.specs.Prelude.{◌≡◌, ◌<◌, true, slice_index, IfSome};
-ghost use Rattle.kernel_model.specs.Objects.{at, with_things};
+ghost use Rattle.kernel_data.specs.Objects.{at, with_things};
 ghost use Rattle.kernel_model.specs.Access.{in_range, param_top, set_param as param_set};
 ghost use Rattle.kernel_model.specs.Early.{policy_count};
 ghost use Rattle.kernel_model.specs.RawRows.{shown_param};

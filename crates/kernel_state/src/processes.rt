@@ -2,12 +2,12 @@
 
 ghost use Rattle.std.specs.Prelude.{◌≡◌, ℕ, ◌<◌, ◌≤◌, ◌==◌, ◌&&◌, not, true, Some, None, IfSome};
 ghost use Rattle.kernel_model.specs.Needs.{free_process};
-ghost use Rattle.kernel_model.specs.Queue.{queue_without};
-ghost use Rattle.kernel_model.specs.Policies.{lives, next_process};
+ghost use Rattle.kernel_data.specs.Queue.{queue_without};
+ghost use Rattle.kernel_data.specs.Policies.{lives, next_process};
 ghost use Rattle.kernel_model.specs.Pieces.{with_queue, to_back as queue_to_back};
 ghost use Rattle.kernel_model.specs.Pieces.{add_slice as queue_with_slice, with_holder};
 ghost use Rattle.kernel_model.specs.Pieces.{things_without, account_closed, without_grafts};
-ghost use Rattle.kernel_model.specs.Objects.{with_things};
+ghost use Rattle.kernel_data.specs.Objects.{with_things};
 ghost use Rattle.kernel_model.specs.Handlers.{has_room, handlers_with, handlers_without};
 ghost use Rattle.kernel_model.specs.EventPoints.{with_handlers};
 ghost use Rattle.kernel_model.specs.Access.{set_cell as cell_set};

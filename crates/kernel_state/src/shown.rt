@@ -2,13 +2,13 @@
 
 ghost use Rattle.std.specs.Prelude.{◌≡◌, ◌<◌, ◌≤◌, length};
 ghost use Rattle.kernel_model.specs.RawRows.{acct_row, cells_row, open_row, graft_row, pol_row, lock_row};
-ghost use Rattle.kernel_model.specs.declared.RawRow.TheVariants.{Acct, Cells, Queue};
+ghost use Rattle.kernel_data.specs.declared.RawRow.TheVariants.{Acct, Cells, Queue};
 ghost use Rattle.kernel_state.specs.Stores.{world_of_store, objects_of, queue_of};
 
 use crate::Store;
 use graft_accounts::GraftPoint;
 use graft_points::Policy;
-use kernel_model::{Kind, QueueRow, QueueRows, RawRow};
+use kernel_data::{Kind, QueueRow, QueueRows, RawRow};
 
 impl<B: Policy> Store<B> {
     /// The queue, front first.
@@ -68,7 +68,12 @@ impl<B: Policy> Store<B> {
     {
         let opened = self.procs.file(p, fd)?;
         let file = self.dir.file(opened.file);
-        Some(RawRow::OpenFile(p, fd, file.name, opened))
+        Some(RawRow::OpenFile {
+            process: p,
+            descriptor: fd,
+            name: file.name,
+            row: opened,
+        })
     }
 
     /// The graft that stands at point pt of process p.
@@ -82,7 +87,14 @@ impl<B: Policy> Store<B> {
             point: pt,
         })?;
         let balance = [graft.steps, graft.records, graft.locks];
-        Some(RawRow::Graft(p, pt, graft.image, graft.limit, graft.billed, balance))
+        Some(RawRow::Graft {
+            installer: p,
+            point: pt,
+            slot: graft.image,
+            limit: graft.limit,
+            billed: graft.billed,
+            amounts: balance,
+        })
     }
 
     /// The chosen policy of a kind, with its parameter if it has one.
@@ -90,7 +102,11 @@ impl<B: Policy> Store<B> {
         requires kind { kind < 3 }
         ensures { result ≡ pol_row (objects_of self.now) kind }
     {
-        RawRow::Pol(kind, self.chosen(kind), self.param(kind))
+        RawRow::Pol {
+            kind,
+            policy: self.chosen(kind),
+            parameter: self.param(kind),
+        }
     }
 
     /// The process that holds user lock u.

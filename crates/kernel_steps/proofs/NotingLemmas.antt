@@ -1,5 +1,6 @@
 -- One more note of those that are kept as rows and bytes.
-use Rattle.std.proofs.Common.{◌≡◌, ℕ, zero, suc, ◌≤◌, ◌+◌, ◌*◌, List, [], ◌∷◌, ◌++◌, take, length, refl, ap, sym, ◌∙◌, arith, subst}
+use Rattle.std.proofs.Common.{◌≡◌, ℕ, zero, suc, ◌≤◌, ◌+◌, ◌*◌, List, [], ◌∷◌, ◌++◌, take, length}
+use Rattle.std.proofs.Common.{refl, ap, sym, ◌∙◌, arith, subst}
 use Rattle.std.specs.Prelude.{cond, drop, ◌<◌, Option, None, Some, IfSome}
 use Rattle.std.proofs.lemmas.List.{length-append, length_push}
 use Rattle.std.proofs.lemmas.List.Sums.{sum_by-append}
@@ -51,12 +52,15 @@ notes_added [] bytes note more given count =
     ∙ ap (λ (bs : List ℕ). note_with note bs ∷ []) (ap (λ n. take n more) count ∙ take_all more)
 notes_added (x ∷ list) bytes note more given count =
     let n = given_count x in
-    ap (λ (bs : List ℕ). note_with x bs ∷ notes_with (list ++ note ∷ []) (drop n (bytes ++ more))) (take_front n bytes more given.1)
-    ∙ ap (λ (bs : List ℕ). note_with x (take n bytes) ∷ notes_with (list ++ note ∷ []) bs) (drop_front n bytes more given.1)
+    ap (λ (bs : List ℕ). note_with x bs ∷ notes_with (list ++ note ∷ []) (drop n (bytes ++ more)))
+    (take_front n bytes more given.1)
+    ∙ ap (λ (bs : List ℕ). note_with x (take n bytes) ∷ notes_with (list ++ note ∷ []) bs)
+    (drop_front n bytes more given.1)
     ∙ ap (λ (ns : List Note). note_with x (take n bytes) ∷ ns) (notes_added list (drop n bytes) note more given.2 count)
 
 pub given_added : (list : List BareNote) (bytes : List ℕ) (note : BareNote) (more : List ℕ) →
-    AreGiven list bytes → given_count note ≡ length more → length more ≤ 512 → AreGiven (list ++ note ∷ []) (bytes ++ more)
+    AreGiven list bytes → given_count note ≡ length more → length more ≤ 512 →
+    AreGiven (list ++ note ∷ []) (bytes ++ more)
 given_added [] bytes note more given count few =
     subst (λ (bs : List ℕ). AreGiven (note ∷ []) (bs ++ more)) (sym given)
     (omega (arith, count, few), omega (arith, count), ap (λ n. drop n more) count ∙ drop_all more)
@@ -64,22 +68,26 @@ given_added (x ∷ list) bytes note more given count few =
     let n = given_count x in (
       given.0,
       no_longer n bytes more given.1,
-      subst (AreGiven (list ++ note ∷ [])) (sym (drop_front n bytes more given.1)) (given_added list (drop n bytes) note more given.2 count few),
+      subst (AreGiven (list ++ note ∷ [])) (sym (drop_front n bytes more given.1))
+          (given_added list (drop n bytes) note more given.2 count few),
     )
 
 -- the bytes of the notes with those that were given behind them
-pub given_whole : (bytes kept new more : List ℕ) (size : ℕ) (gave : Option (List ℕ)) → kept ≡ bytes → gave ≡ Some more → IfSome gave (λ b. new ≡ kept ++ b) → size ≡ length new →
+pub given_whole : (bytes kept new more : List ℕ) (size : ℕ) (gave : Option (List ℕ)) →
+    kept ≡ bytes → gave ≡ Some more → IfSome gave (λ b. new ≡ kept ++ b) → size ≡ length new →
     take size new ≡ bytes ++ more
 given_whole bytes kept new more size gave same some given whole =
     let put : new ≡ kept ++ more = subst (λ (o : Option (List ℕ)). IfSome o (λ b. new ≡ kept ++ b)) some given in
     ap (λ n. take n new) whole ∙ take_all new ∙ put ∙ ap (λ xs. xs ++ more) same
 
 -- one note more, and its bytes
-pub fit_added : (list new_list : List BareNote) (bytes new_bytes more : List ℕ) (note : BareNote) (list_room bytes_room new_list_room new_bytes_room : ℕ) →
+pub fit_added : (list new_list : List BareNote) (bytes new_bytes more : List ℕ) (note : BareNote)
+    (list_room bytes_room new_list_room new_bytes_room : ℕ) →
     NotesFit list bytes list_room bytes_room → length list < 530 → given_count note ≡ length more → length more ≤ 512 →
     new_list ≡ list ++ note ∷ [] → new_bytes ≡ bytes ++ more → list_room ≤ new_list_room → bytes_room ≤ new_bytes_room →
     NotesFit new_list new_bytes new_list_room new_bytes_room
-fit_added list new_list bytes new_bytes more note list_room bytes_room new_list_room new_bytes_room fit room count few is_list is_bytes wide_list wide_bytes =
+fit_added list new_list bytes new_bytes more note list_room bytes_room new_list_room new_bytes_room
+    fit room count few is_list is_bytes wide_list wide_bytes =
     let many : length new_list ≡ length list + 1 = ap length is_list ∙ length_push list note in
     let size : length new_bytes ≡ length bytes + length more = ap length is_bytes ∙ length-append bytes more in
     let rows = fit.rows in
@@ -101,7 +109,8 @@ as_many (x ∷ list) bytes = ap suc (as_many list (drop (given_count x) bytes))
 -- ---- what was added to the notes that are kept
 
 -- one more, where there is room
-pub added_more : (old kept new : List Note) (note : Note) → kept ≡ old → new ≡ kept ++ note ∷ [] → length kept < 530 → Adds (note ∷ []) old new
+pub added_more : (old kept new : List Note) (note : Note) → kept ≡ old → new ≡ kept ++ note ∷ [] →
+    length kept < 530 → Adds (note ∷ []) old new
 added_more old kept new note same is room =
     record {
       first = λ all k. is ∙ kept_more kept all note (same ∙ k) room;
@@ -116,7 +125,3 @@ added_more old kept new note same is room =
 pub added_full : (old kept : List Note) (note : Note) → kept ≡ old → 530 ≤ length kept → Adds (note ∷ []) old old
 added_full old kept note same full =
     record { first = λ all k. sym same ∙ kept_full kept all note (same ∙ k) full; faults = omega arith }
-
--- nothing was given
-pub added_nothing : (old : List Note) (number : ℕ) (gave : Option (List ℕ)) → gave ≡ None → Adds (gave_note number gave) old old
-added_nothing old number gave is = subst (λ g. Adds (gave_note number g) old old) (sym is) (adds_none old)

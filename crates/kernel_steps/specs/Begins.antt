@@ -4,12 +4,12 @@ use Rattle.kernel_model.specs.declared.SysCall.{SysCall}
 use Rattle.kernel_model.specs.declared.Refusal.{Refusal}
 use Rattle.kernel_model.specs.World.{World, ImageTable}
 use Rattle.kernel_model.specs.Meaning.{Meaning, Stage}
-use Rattle.kernel_state.specs.Stores.{world_of_store}
-use Rattle.graft_loader.specs.Slots.{table_of}
+use Rattle.call_pieces.specs.Stores.{world_of_store}
+use Rattle.graft_levels.specs.Slots.{table_of}
 use Rattle.placed_laws.specs.Keeping.{first_placed}
 use Rattle.placed_laws.specs.PlacedSteps.{placed_joins, with_placed_call}
 use Rattle.call_pieces.specs.Works.{stage_of}
-use Rattle.call_needs.specs.declared.Work.{Work}
+use Rattle.call_pieces.specs.declared.Work.{Work}
 use Rattle.running_kernel.specs.declared.running.InFlight.{InFlight}
 use Rattle.running_kernel.specs.declared.running.Flight.{Flight}
 use Rattle.running_kernel.specs.declared.running.Running.{Running}

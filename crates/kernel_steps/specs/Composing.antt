@@ -6,11 +6,11 @@ use Rattle.std.proofs.lemmas.List.Sums.{sum_by-append}
 use Rattle.kernel_model.specs.declared.Note.{Note}
 use Rattle.kernel_model.specs.World.{Blocks}
 use Rattle.kernel_model.specs.Sound.{HasWholeBlocks}
-use Rattle.vino_base.specs.Disks.{DiskSeen}
-use Rattle.disk_log.specs.Calls.{failures}
-use Rattle.disk_log.specs.Joined.{made_none, made_joined}
+use Rattle.call_pieces.specs.Disks.{DiskSeen}
+use Rattle.call_pieces.specs.Calls.{failures}
+use Rattle.call_pieces.specs.Joined.{made_none, made_joined}
 use Rattle.placed_laws.specs.Placed.{Placed, PlacedRun}
-use Rattle.kernel_steps.specs.Moments.{moment}
+use Rattle.kernel_steps.specs.Moments.{kernel_moment}
 use Rattle.kernel_steps.specs.Faults.{fault_notes}
 use Rattle.kernel_steps.specs.Refines.{first_notes, Adds, Reaches, Refines, RunMatches}
 use Rattle.running_kernel.specs.Views.{run_of}
@@ -48,7 +48,7 @@ run_is r y kept known rest h =
 
 -- nothing was done
 pub did_nothing : (x : Placed) (kept : List Note) (d : DiskSeen) →
-    Refines (λ r. r) (moment x kept d) (moment x kept d)
+    Refines (λ r. r) (kernel_moment x kept d) (kernel_moment x kept d)
 did_nothing x kept d =
     record {
       io = [];
@@ -66,8 +66,8 @@ did_nothing x kept d =
 pub did_as : (f g : PlacedRun → PlacedRun) (x y : Placed) (kept kept_new : List Note)
     (d e : DiskSeen) → ((blocks : Blocks) (notes : List Note) (io : List Bool) →
     f (run_of x blocks notes io) ≡ g (run_of x blocks notes io)) →
-    Refines g (moment x kept d) (moment y kept_new e) →
-    Refines f (moment x kept d) (moment y kept_new e)
+    Refines g (kernel_moment x kept d) (kernel_moment y kept_new e) →
+    Refines f (kernel_moment x kept d) (kernel_moment y kept_new e)
 did_as f g x y kept kept_new d e same h =
     record {
       io = h.io;
@@ -82,7 +82,7 @@ pub did_purely : (f : PlacedRun → PlacedRun) (x y : Placed) (kept kept_new mor
     (d : DiskSeen) → ((blocks : Blocks) (notes : List Note) (io : List Bool) →
     f (run_of x blocks notes io) ≡ run_of y blocks (notes ++ more) io) →
     Adds more kept kept_new → fault_notes more ≡ 0 →
-    Refines f (moment x kept d) (moment y kept_new d)
+    Refines f (kernel_moment x kept d) (kernel_moment y kept_new d)
 did_purely f x y kept kept_new more d same adds none =
     record {
       io = [];
@@ -95,8 +95,9 @@ did_purely f x y kept kept_new more d same adds none =
 
 -- one after the other
 pub did_then : (f g : PlacedRun → PlacedRun) (x y z : Placed) (a b c : List Note)
-    (d e l : DiskSeen) → Refines f (moment x a d) (moment y b e) →
-    Refines g (moment y b e) (moment z c l) → Refines (λ r. g (f r)) (moment x a d) (moment z c l)
+    (d e l : DiskSeen) → Refines f (kernel_moment x a d) (kernel_moment y b e) →
+    Refines g (kernel_moment y b e) (kernel_moment z c l) →
+    Refines (λ r. g (f r)) (kernel_moment x a d) (kernel_moment z c l)
 did_then f g x y z a b c d e l first second =
     record {
       io = first.io ++ second.io;

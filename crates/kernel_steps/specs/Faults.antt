@@ -3,7 +3,7 @@ use Rattle.std.specs.Prelude.{ℕ, Bool, false, List}
 use Rattle.std.specs.List.{count_by}
 use Rattle.kernel_model.specs.declared.Note.{Note}
 use Rattle.kernel_model.specs.declared.Note.TheVariants.{Refused}
-use Rattle.plain_rules.specs.QuickPieces.{is_disk_fault}
+use Rattle.call_pieces.specs.QuickPieces.{is_disk_fault}
 
 -- a note says that its call was refused because the disk failed
 abbrev pub is_fault_note : Note → Bool

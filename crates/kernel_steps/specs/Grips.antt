@@ -2,8 +2,8 @@
 use Rattle.std.specs.Prelude.{◌≡◌, ℕ, List, Option, Some, None, slice_get, ⊤}
 use Rattle.kernel_model.specs.declared.Need.{Need}
 use Rattle.kernel_model.specs.Locks.{Touched}
-use Rattle.lock_table.specs.declared.Holds.{Holds}
-use Rattle.lock_table.specs.Masks.{held_by}
+use Rattle.graft_levels.specs.declared.Holds.{Holds}
+use Rattle.graft_levels.specs.Masks.{held_by}
 use Rattle.kernel_steps.specs.declared.settled.HoldSnapshot.{HoldSnapshot}
 
 -- how the levels hold the object of a need, where there is one

@@ -3,7 +3,7 @@
 use Rattle.std.specs.Prelude.{◌≡◌, ◌≢◌, ℕ, ◌<◌, true, List, [], Option, Some, None, is_some, map, length}
 use Rattle.kernel_model.specs.declared.Held.{Held}
 use Rattle.kernel_model.specs.declared.Object.{Object}
-use Rattle.lock_table.specs.Masks.{held}
+use Rattle.graft_levels.specs.Masks.{held}
 use Rattle.kernel_model.specs.declared.Need.{Need}
 use Rattle.kernel_model.specs.World.{World}
 use Rattle.kernel_model.specs.Objects.{Objects, at, SameAt}
@@ -11,9 +11,9 @@ use Rattle.kernel_model.specs.declared.Point.{Point}
 use Rattle.kernel_model.specs.Levels.{Config}
 use Rattle.kernel_model.specs.Policies.{lives}
 use Rattle.kernel_model.specs.Sound.{ImagesAreLoaded}
-use Rattle.kernel_state.specs.declared.Store.{Store}
-use Rattle.kernel_state.specs.Stores.{objects_of, queue_of}
-use Rattle.graft_loader.specs.Slots.{table_of}
+use Rattle.call_pieces.specs.declared.Store.{Store}
+use Rattle.call_pieces.specs.Stores.{objects_of, queue_of}
+use Rattle.graft_levels.specs.Slots.{table_of}
 use Rattle.graft_levels.specs.Calls.{IsPlaced, AreSound, AreInside, AllUndoable, IsElsewhereSame}
 use Rattle.kernel_model.specs.Meaning.{Meaning}
 use Rattle.placed_laws.specs.Placed.{Placed, PlacedCall, bare}

@@ -1,18 +1,18 @@
 -- What a change of an event under way did, beside what the definitions say.
 use Rattle.std.specs.Prelude.{◌≡◌, ℕ, ◌+◌, ◌≤◌, Bool, List, ◌++◌, Option, take, length}
-use Rattle.disk_log.specs.Calls.{Knows, Made, failures}
+use Rattle.call_pieces.specs.Calls.{Knows, Made, failures}
 use Rattle.kernel_model.specs.declared.Note.{Note}
 use Rattle.kernel_model.specs.World.{World, ImageTable, Blocks}
 use Rattle.kernel_model.specs.Objects.{Objects}
 use Rattle.kernel_model.specs.Sound.{HasWholeBlocks}
 use Rattle.kernel_model.specs.Meaning.{Meaning, Answer, Piece}
 use Rattle.kernel_model.specs.Kernel.{gave_note, after_note}
-use Rattle.kernel_state.specs.declared.Store.{Store}
-use Rattle.kernel_state.specs.Stores.{world_of_store, SegmentsStay}
+use Rattle.call_pieces.specs.declared.Store.{Store}
+use Rattle.call_pieces.specs.Stores.{world_of_store, SegmentsStay}
 use Rattle.placed_laws.specs.Placed.{Placed, PlacedCall, PlacedRun}
 use Rattle.placed_laws.specs.PlacedSteps.{placed_after}
 use Rattle.kernel_steps.specs.Faults.{fault_notes}
-use Rattle.kernel_steps.specs.Moments.{Moment}
+use Rattle.kernel_steps.specs.Moments.{KernelMoment}
 use Rattle.running_kernel.specs.Views.{run_of}
 
 -- the notes that are kept of those of an event: no event of a sound kernel has more
@@ -48,7 +48,7 @@ pub record RunMatches (r : PlacedRun) (y : Placed) (kept : List Note)
 
 -- A change of an event under way took one moment to another: the kernel in place, the notes that
 -- are kept, and the disk. Where the disk tells its blocks, all is as the definitions have it.
-pub record Refines (f : PlacedRun → PlacedRun) (a b : Moment Placed) : Type 0 where
+pub record Refines (f : PlacedRun → PlacedRun) (a b : KernelMoment Placed) : Type 0 where
   -- which of its calls of the disk failed
   pub io : List Bool
   pub made : Made a.disk b.disk io
@@ -91,7 +91,7 @@ pub record PieceMayLeave (v : World) (piece : Blocks → List Bool → Piece) (c
 -- A piece of the call c of process p, with an answer or by default, was done: it took one moment to
 -- another, of which the objects are looked at, and left this call, if it goes on.
 pub record PieceDone (m : Meaning) (v : World) (p : ℕ) (c : PlacedCall)
-    (call : Option PlacedCall) (answer : Option Answer) (a b : Moment Objects) : Type 0 where
+    (call : Option PlacedCall) (answer : Option Answer) (a b : KernelMoment Objects) : Type 0 where
   pub io : List Bool
   pub made : Made a.disk b.disk io
   pub goes : (images : ImageTable) (blocks : Blocks) (notes : List Note) (rest : List Bool) →

@@ -3,12 +3,12 @@
 use Rattle.std.specs.Prelude.{◌≡◌, ℕ, ◌<◌, List, length}
 use Rattle.kernel_model.specs.declared.Note.{Note}
 use Rattle.kernel_model.specs.Meaning.{Meaning}
-use Rattle.kernel_state.specs.Stores.{world_of_store}
+use Rattle.call_pieces.specs.Stores.{world_of_store}
 use Rattle.placed_laws.specs.Placed.{PlacedRun}
-use Rattle.vino_base.specs.Disks.{DiskSeen}
+use Rattle.call_pieces.specs.Disks.{DiskSeen}
 use Rattle.running_kernel.specs.declared.running.Running.{Running}
 use Rattle.running_kernel.specs.Views.{placed_of, chain_of, IsRunning, HasAbstraction, Simulates}
-use Rattle.kernel_steps.specs.Moments.{moment, Moment}
+use Rattle.kernel_steps.specs.Moments.{kernel_moment, KernelMoment}
 use Rattle.kernel_steps.specs.Refines.{Refines, SimulatesNoting}
 
 -- ---- a kernel and its disk
@@ -63,9 +63,9 @@ pub record ChangesNoting {C B M : Type 0} {P : _} (f : PlacedRun → PlacedRun) 
 -- A change of an event under way was made, as `Refines` says it, and left a sound kernel. The
 -- set-up and the clock stay.
 pub record RefinesAndKeeps {C B M : Type 0} {P : _} (m : Meaning) (f : PlacedRun → PlacedRun)
-    (a b : Moment (Running C B M P)) : Type 0 where
-  pub refines : Refines f (moment (placed_of a.kernel) a.notes a.disk)
-      (moment (placed_of b.kernel) b.notes b.disk)
+    (a b : KernelMoment (Running C B M P)) : Type 0 where
+  pub refines : Refines f (kernel_moment (placed_of a.kernel) a.notes a.disk)
+      (kernel_moment (placed_of b.kernel) b.notes b.disk)
   pub running : IsRunning b.kernel
   pub abstraction : HasAbstraction m (placed_of b.kernel)
   pub world : world_of_store b.kernel.store ≡ world_of_store a.kernel.store

@@ -5,9 +5,9 @@ use Rattle.kernel_model.specs.declared.Note.TheVariants.{Dropped}
 use Rattle.kernel_model.specs.Laws.{IsReady}
 use Rattle.kernel_model.specs.Meaning.{Meaning, Answer}
 use Rattle.call_pieces.specs.Works.{answer_seen, stage_of}
-use Rattle.lock_table.specs.Masks.{held}
-use Rattle.kernel_state.specs.Stores.{world_of_store, objects_of}
-use Rattle.graft_loader.specs.Slots.{table_of}
+use Rattle.graft_levels.specs.Masks.{held}
+use Rattle.call_pieces.specs.Stores.{world_of_store, objects_of}
+use Rattle.graft_levels.specs.Slots.{table_of}
 use Rattle.graft_levels.specs.declared.Chain.{Chain}
 use Rattle.graft_levels.specs.Calls.{IsPlaced, AreInside}
 use Rattle.placed_laws.specs.Placed.{PlacedCall, PlacedRun}
@@ -15,7 +15,7 @@ use Rattle.placed_laws.specs.PlacedSteps.{placed_noted, placed_finish_on}
 use Rattle.running_kernel.specs.declared.running.InFlight.{InFlight}
 use Rattle.running_kernel.specs.declared.running.Running.{Running}
 use Rattle.running_kernel.specs.Owned.{AreOwned}
-use Rattle.kernel_steps.specs.Moments.{moment, Moment}
+use Rattle.kernel_steps.specs.Moments.{kernel_moment, KernelMoment}
 use Rattle.kernel_steps.specs.Refines.{Reaches, Refines}
 use Rattle.running_kernel.specs.Views.{placed_of, flight_of, chain_of, call_at}
 
@@ -95,14 +95,14 @@ pub record Stepped {C B M : Type 0} {P : _} (x y : Running C B M P) (p : ℕ) : 
 -- A step of the call of p, or a part of one, took one moment to another as the definitions say; and
 -- p's levels are of one owner again.
 pub record StepDone {C B M : Type 0} {P : _} (f : PlacedRun → PlacedRun) (p : ℕ)
-    (a b : Moment (Running C B M P)) : Type 0 where
-  pub refines : Refines f (moment (placed_of a.kernel) a.notes a.disk)
-      (moment (placed_of b.kernel) b.notes b.disk)
+    (a b : KernelMoment (Running C B M P)) : Type 0 where
+  pub refines : Refines f (kernel_moment (placed_of a.kernel) a.notes a.disk)
+      (kernel_moment (placed_of b.kernel) b.notes b.disk)
   pub reaches : Reaches f (placed_of a.kernel) (placed_of b.kernel)
   pub stepped : Stepped a.kernel b.kernel p
   pub own : IsOfOne (chain_of b.kernel p)
 
 -- the same of a step that is said of the call that p has
 abbrev pub CallStepDone : {C B M : Type 0} {P : _} → (PlacedCall → PlacedRun → PlacedRun) → ℕ →
-    (a b : Moment (Running C B M P)) → Type 0
+    (a b : KernelMoment (Running C B M P)) → Type 0
 CallStepDone f p a b = (c : PlacedCall) → call_at a.kernel p ≡ Some c → StepDone (f c) p a b

@@ -5,8 +5,8 @@ ghost use Rattle.kernel_model.specs.declared.Note.TheVariants.{Ticked};
 ghost use Rattle.kernel_model.specs.Bare.{call_with, note_with};
 ghost use Rattle.kernel_model.specs.Events.{in_order};
 ghost use Rattle.kernel_model.specs.Policies.{lives};
-ghost use Rattle.kernel_state.specs.Stores.{world_of_store, queue_of};
-ghost use Rattle.graft_loader.specs.Slots.{table_of};
+ghost use Rattle.call_pieces.specs.Stores.{world_of_store, queue_of};
+ghost use Rattle.graft_levels.specs.Slots.{table_of};
 ghost use Rattle.placed_laws.specs.PlacedSteps.{placed_joins, placed_noted, placed_requeue};
 ghost use Rattle.placed_laws.specs.PlacedSteps.{placed_ticked, with_placed_call};
 ghost use Rattle.running_kernel.specs.Orders.{has_number, numbers_of};
@@ -17,11 +17,9 @@ ghost use Rattle.kernel_steps.specs.Runs.{ChangesNoting, ChangesTo};
 
 use crate::notes::Notes;
 use arrayvec::ArrayVec;
-use call_pieces::Calls;
-use graft_loader::Images;
-use graft_points::Policy;
+use call_pieces::{Calls, Policy, Store};
+use graft_levels::Images;
 use kernel_model::{BLOCK_BYTES, BareCall, BareNote, Refusal};
-use kernel_state::Store;
 use running_kernel::{Flight, Running, Slot, Waiting};
 
 /// A system call that an event asks.
@@ -65,7 +63,7 @@ fn begin_in<C: Calls, B: Policy>(
 }
 
 /// A call of process p, which lives, begins in its place, unless it is refused at once.
-fn begin_call<C: Calls, B: Policy>(
+fn begin_flight<C: Calls, B: Policy>(
     flights: &mut Vec<Flight>,
     store: &Store<B>,
     images: &Images,
@@ -94,7 +92,7 @@ fn end_call(flights: &mut Vec<Flight>, p: u8)
 /// A call of process p begins, which lives, has none and doesn't wait. It is still to join the
 /// order, and is said to have begun in the kernel once it has. Or it is refused at once, and nothing
 /// changes.
-pub fn begin<C: Calls, B: Policy>(
+pub fn begin_call<C: Calls, B: Policy>(
     running: &mut Running<C, B>,
     p: u8,
     request: Request<'_>,
@@ -108,7 +106,7 @@ pub fn begin<C: Calls, B: Policy>(
         running.old running.new result }
 {
     let calls = &mut running.calls;
-    match begin_call::<C, B>(calls, &running.store, &running.images, p, request) {
+    match begin_flight::<C, B>(calls, &running.store, &running.images, p, request) {
         Err(refusal) => Err(refusal),
         Ok(()) => Ok(()),
     }

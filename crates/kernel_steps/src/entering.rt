@@ -1,39 +1,35 @@
 //! How a call enters the graft that its piece asks.
 
 ghost use Rattle.std.specs.Prelude.{◌≡◌, ◌≤◌, [], Some, length, option_map, All};
-ghost use Rattle.kernel_model.specs.declared.Need.{Need as Needed};
+ghost use Rattle.kernel_model.specs.declared.Need.{Need};
 ghost use Rattle.kernel_model.specs.History.{begin_at};
 ghost use Rattle.kernel_model.specs.Laws.{IsInRange, IsStanding};
 ghost use Rattle.kernel_model.specs.Sound.{ImagesAreLoaded};
 ghost use Rattle.kernel_model.specs.World.{ImageTable};
-ghost use Rattle.kernel_state.specs.Stores.{world_of_store, objects_of};
+ghost use Rattle.call_pieces.specs.Stores.{world_of_store, objects_of};
 ghost use Rattle.call_pieces.specs.Works.{stage_of};
-ghost use Rattle.graft_loader.specs.Slots.{table_of};
+ghost use Rattle.graft_levels.specs.Slots.{table_of};
 ghost use Rattle.graft_levels.specs.Chains.{call_of};
 ghost use Rattle.graft_levels.specs.Calls.{IsPlaced, IsInPlace, IsElsewhereSame};
-ghost use Rattle.running_kernel.specs.declared.running.InFlight.{InFlight as Flying};
+ghost use Rattle.running_kernel.specs.declared.running.InFlight.{InFlight};
 ghost use Rattle.running_kernel.specs.Views.{call_in_place};
 ghost use Rattle.kernel_steps.specs.Moves.{fed_by, needed_by, HasGraft};
 
-use call_pieces::{Calls, Needs};
-use graft_levels::PieceAsk;
-use graft_loader::Images;
-use graft_points::Policy;
+use call_pieces::{Calls, Needs, Policy, Store};
+use graft_levels::{Images, LockTable, PieceAsk};
 use kernel_model::Point;
-use kernel_state::Store;
-use lock_table::LockTable;
 use running_kernel::{Flight, Slot};
 
 /// The objects that the piece needs of the call of process p that stands here, if one does.
 fn needs_of<C: Calls, B: Policy>(slot: &Slot, p: u8, store: &Store<B>, needs: &mut Needs)
-    requires own { (f : Flying) → slot.now ≡ Some f → f.work.caller ≡ p }
-    requires stands { (f : Flying) → slot.now ≡ Some f → (images : ImageTable)
+    requires own { (f : InFlight) → slot.now ≡ Some f → f.work.caller ≡ p }
+    requires stands { (f : InFlight) → slot.now ≡ Some f → (images : ImageTable)
         × IsStanding C.Meaning.meaning (world_of_store store.now) images (objects_of store.now) p
         (stage_of f.work) }
     requires empty { needs.old ≡ [] }
     ensures value { needs.new ≡ needed_by C.Meaning.meaning (world_of_store store.now)
         (objects_of store.now) p (option_map call_in_place slot.now) }
-    ensures range { All (λ (n : Needed). IsInRange n.object) needs.new }
+    ensures range { All (λ (n : Need). IsInRange n.object) needs.new }
 {
     if let Some(call) = slot.get() {
         C::need(&call.work, store, needs);
@@ -61,8 +57,8 @@ pub(crate) fn begin_graft<C: Calls, B: Policy>(
     images: &Images,
     at: &Point,
 )
-    requires own { (f : Flying) → flight.old.call ≡ Some f → f.work.caller ≡ p }
-    requires due { (f : Flying) → flight.old.call ≡ Some f → (images : ImageTable)
+    requires own { (f : InFlight) → flight.old.call ≡ Some f → f.work.caller ≡ p }
+    requires due { (f : InFlight) → flight.old.call ≡ Some f → (images : ImageTable)
         × IsStanding C.Meaning.meaning (world_of_store store.old) images (objects_of store.old) p
         (stage_of f.work) }
     requires none { flight.old.chain.levels ≡ [] }
@@ -83,7 +79,7 @@ pub(crate) fn begin_graft<C: Calls, B: Policy>(
     let mut needs = Needs::new();
     needs_of::<C, B>(&flight.call, p, store, &mut needs);
     let at = *at;
-    flight.chain.begin(
+    flight.chain.begin_call(
         p,
         store,
         locks,

@@ -5,17 +5,16 @@ ghost use Rattle.kernel_model.specs.History.{begin_at};
 ghost use Rattle.kernel_model.specs.GraftStep.{micro};
 ghost use Rattle.kernel_model.specs.Levels.{drop_level as level_dropped};
 ghost use Rattle.graft_levels.specs.Chains.{HasAnswer};
-ghost use Rattle.kernel_state.specs.Stores.{objects_of};
+ghost use Rattle.call_pieces.specs.Stores.{objects_of};
 ghost use Rattle.placed_laws.specs.Placed.{placed_config, placed_levels};
-ghost use Rattle.undo_laws.specs.Undone.{LeadsToStoreBelow};
+ghost use Rattle.placed_laws.specs.Undone.{LeadsToStoreBelow};
 ghost use Rattle.running_kernel.specs.Sound.{HasProcess, IsSoundFor};
 ghost use Rattle.running_kernel.specs.Views.{placed_of, chain_of};
 ghost use Rattle.kernel_steps.specs.Moves.{come_to, fed_by, needed_by, HasGraft, Moved};
 
 use crate::entering::begin_graft;
-use call_pieces::Calls;
+use call_pieces::{Calls, Policy};
 use graft_calls::instruction;
-use graft_points::Policy;
 use kernel_model::{Cause, Micro, Point};
 use running_kernel::Running;
 

@@ -15,7 +15,7 @@ mod steps;
 mod stretches;
 mod trace;
 
-pub use calls::{Request, begin, end, join, requeue, tick};
+pub use calls::{Request, begin_call, end, join, requeue, tick};
 pub use levels::{fall, instruct};
 pub use notes::Notes;
 pub use settled::step_in_graft;

@@ -11,7 +11,7 @@ use kernel_model::{BLOCK_BYTES, BareNote, NoMemory};
 use std::alloc::Global;
 use std::marker::Model;
 
-/// The most notes of one event of a sound kernel (`history_laws::notes`).
+/// The most notes of one event of a sound kernel (`graft_laws::notes`).
 const NOTES: usize = 530;
 
 /// The most bytes that these notes give.

@@ -4,19 +4,16 @@ ghost use Rattle.std.specs.Prelude.{◌≡◌, true, Some, None, cond, option_ma
 ghost use Rattle.kernel_model.specs.Laws.{IsReady};
 ghost use Rattle.kernel_model.specs.World.{ImageTable};
 ghost use Rattle.call_pieces.specs.Works.{answer_seen, stage_of};
-ghost use Rattle.kernel_state.specs.Stores.{world_of_store, objects_of};
+ghost use Rattle.call_pieces.specs.Stores.{world_of_store, objects_of};
 ghost use Rattle.running_kernel.specs.declared.running.InFlight.{InFlight as Flying};
-ghost use Rattle.kernel_steps.specs.Moments.{moment};
+ghost use Rattle.kernel_steps.specs.Moments.{kernel_moment};
 ghost use Rattle.kernel_steps.specs.Refines.{PieceDone, StoreStays};
 ghost use Rattle.running_kernel.specs.Views.{call_in_place};
 
 use crate::trace::Trace;
-use call_pieces::{Calls, Next};
-use graft_points::Policy;
+use call_pieces::{Calls, Disk, Next, Policy, Store};
 use kernel_model::BareNote;
-use kernel_state::Store;
 use running_kernel::{InFlight, Slot};
-use vino_base::Disk;
 
 /// The next piece of a call in flight, with an answer to the point that it asks, or by default.
 /// Whether the call goes on; it ends with a note. The log has this piece's calls of the disk then.
@@ -35,8 +32,8 @@ fn run_piece<C: Calls, B: Policy, D: Disk>(
     ensures done { PieceDone C.Meaning.meaning (world_of_store store.old) call.old.work.caller
         (call_in_place call.old) (option_map call_in_place (cond result (Some call.new) None))
         (answer_seen store.old.ram call.old.work.caller answer)
-        (moment (objects_of store.old) trace.old.notes (D.seen disk.old))
-        (moment (objects_of store.new) trace.new.notes (D.seen disk.new)) }
+        (kernel_moment (objects_of store.old) trace.old.notes (D.seen disk.old))
+        (kernel_moment (objects_of store.new) trace.new.notes (D.seen disk.new)) }
     ensures caller { result ≡ true → call.new.work.caller ≡ call.old.work.caller }
     ensures store { StoreStays store.old store.new }
 {
@@ -82,8 +79,8 @@ pub(crate) fn do_piece<C: Calls, B: Policy, D: Disk>(
     ensures done { (f : Flying) → slot.old ≡ Some f →
         PieceDone C.Meaning.meaning (world_of_store store.old) f.work.caller (call_in_place f)
         (option_map call_in_place slot.new) (answer_seen store.old.ram f.work.caller answer)
-        (moment (objects_of store.old) trace.old.notes (D.seen disk.old))
-        (moment (objects_of store.new) trace.new.notes (D.seen disk.new)) }
+        (kernel_moment (objects_of store.old) trace.old.notes (D.seen disk.old))
+        (kernel_moment (objects_of store.new) trace.new.notes (D.seen disk.new)) }
     ensures caller { (f g : Flying) → slot.old ≡ Some f → slot.new ≡ Some g →
         g.work.caller ≡ f.work.caller }
     ensures store { StoreStays store.old store.new }

@@ -3,24 +3,22 @@
 ghost use Rattle.std.specs.Prelude.{◌≡◌, ◌<◌, ◌≤◌, true, None, is_some, length, slice_get, All};
 ghost use Rattle.kernel_model.specs.declared.Need.{Need as Needed};
 ghost use Rattle.kernel_model.specs.Laws.{IsInRange};
-ghost use Rattle.lock_table.specs.Masks.{held};
+ghost use Rattle.graft_levels.specs.Masks.{held};
 ghost use Rattle.placed_laws.specs.Placed.{has_some, placed_blocker};
 ghost use Rattle.placed_laws.specs.PlacedSteps.{placed_step};
 ghost use Rattle.placed_laws.specs.Resting.{KeepsHolds};
 ghost use Rattle.kernel_steps.specs.Grips.{IsHold, IsGrip};
-ghost use Rattle.kernel_steps.specs.Moments.{moment};
+ghost use Rattle.kernel_steps.specs.Moments.{kernel_moment};
 ghost use Rattle.running_kernel.specs.Sound.{AreNeeds};
 ghost use Rattle.kernel_steps.specs.Runs.{CanRun, RefinesAndKeeps};
 ghost use Rattle.running_kernel.specs.Views.{placed_of, call_at};
 
 use crate::steps::step;
 use crate::trace::Trace;
-use call_pieces::Calls;
-use graft_points::Policy;
+use call_pieces::{Calls, Disk, Policy};
+use graft_levels::{Holds, LockTable};
 use kernel_model::Need;
-use lock_table::{Holds, LockTable};
 use running_kernel::Running;
-use vino_base::Disk;
 
 /// How the levels of a call hold up to three objects.
 #[derive(Clone, Copy, PartialEq, Eq)]
@@ -78,8 +76,8 @@ pub fn step_in_graft<C: Calls, B: Policy, D: Disk>(
     ensures kept { result ≡ true → KeepsHolds C.Meaning.meaning (placed_of running.old)
         (placed_of running.new) p }
     ensures went { RefinesAndKeeps C.Meaning.meaning (placed_step C.Meaning.meaning p)
-        (moment running.old trace.old.notes (D.seen disk.old))
-        (moment running.new trace.new.notes (D.seen disk.new)) }
+        (kernel_moment running.old trace.old.notes (D.seen disk.old))
+        (kernel_moment running.new trace.new.notes (D.seen disk.new)) }
 {
     let count = running.level_count(p);
     let before = grip_of(&running.locks, p, needs);

@@ -11,7 +11,7 @@ ghost use Rattle.call_pieces.specs.Works.{answer_seen};
 ghost use Rattle.kernel_steps.specs.Steps.{answer_said, answer_of_drop, after_drop, after_said};
 ghost use Rattle.kernel_steps.specs.Steps.{finishes, CallStepDone, CanFinish, StepDone, StepsAlone};
 ghost use Rattle.kernel_steps.specs.Faults.{fault_notes};
-ghost use Rattle.kernel_steps.specs.Moments.{moment};
+ghost use Rattle.kernel_steps.specs.Moments.{kernel_moment};
 ghost use Rattle.kernel_steps.specs.Runs.{CanRun, HasLevel, RefinesAndKeeps};
 ghost use Rattle.running_kernel.specs.Idle.{IsIdle, IsPlain, joined_in, joined_if};
 ghost use Rattle.running_kernel.specs.Views.{placed_of, chain_of, call_at};
@@ -20,11 +20,9 @@ use crate::calls::requeue;
 use crate::levels::{enter, fall, instruct};
 use crate::pieces::do_piece;
 use crate::trace::Trace;
-use call_pieces::Calls;
-use graft_points::Policy;
+use call_pieces::{Calls, Disk, Policy};
 use kernel_model::{BareNote, Cause, Micro};
 use running_kernel::{Running, flight, number_of};
-use vino_base::Disk;
 
 /// The piece of process p's call, which has no level, is done: with an answer to the point that it
 /// asks, or by default. It isn't inlined: most pieces are done by `piece_alone`.
@@ -41,8 +39,8 @@ fn finish<C: Calls, B: Policy, D: Disk>(
     requires disk { running.old.store.size ≡ (D.seen disk.old).size }
     ensures { CallStepDone (λ c. finishes C.Meaning.meaning p c
         (answer_seen running.old.store.ram p answer)) p
-        (moment running.old trace.old.notes (D.seen disk.old))
-        (moment running.new trace.new.notes (D.seen disk.new)) }
+        (kernel_moment running.old trace.old.notes (D.seen disk.old))
+        (kernel_moment running.new trace.new.notes (D.seen disk.new)) }
 {
     let flight = &mut running.calls[p as usize];
     do_piece::<C, B, D>(&mut flight.call, &mut running.store, answer, disk, trace);
@@ -65,8 +63,8 @@ fn follow_drop<C: Calls, B: Policy, D: Disk>(
     requires disk { running.old.store.size ≡ (D.seen disk.old).size }
     ensures { CallStepDone (λ c r. after_drop C.Meaning.meaning p c d
         (placed_noted (note_with note []) r)) p
-        (moment running.old trace.old.notes (D.seen disk.old))
-        (moment running.new trace.new.notes (D.seen disk.new)) }
+        (kernel_moment running.old trace.old.notes (D.seen disk.old))
+        (kernel_moment running.new trace.new.notes (D.seen disk.new)) }
 {
     trace.notes.push(note);
     if d > 0 {
@@ -90,13 +88,18 @@ fn follow<C: Calls, B: Policy, D: Disk>(
     requires disk { running.old.store.size ≡ (D.seen disk.old).size }
     ensures { CallStepDone
         (λ c. after_said C.Meaning.meaning running.old.store.ram p c said) p
-        (moment running.old trace.old.notes (D.seen disk.old))
-        (moment running.new trace.new.notes (D.seen disk.new)) }
+        (kernel_moment running.old trace.old.notes (D.seen disk.old))
+        (kernel_moment running.new trace.new.notes (D.seen disk.new)) }
 {
     match said {
-        Micro::Went | Micro::Blocked(..) => {}
+        Micro::Went | Micro::Blocked { .. } => {}
         Micro::Completed(answer) => finish(running, p, Some(answer), disk, trace),
-        Micro::Dropped(d, q, pt, cause) => {
+        Micro::Dropped {
+            depth: d,
+            installer: q,
+            point: pt,
+            cause,
+        } => {
             let Some(number) = number_of(&running.calls, p) else {
                 return;
             };
@@ -104,7 +107,12 @@ fn follow<C: Calls, B: Policy, D: Disk>(
                 running,
                 p,
                 d,
-                BareNote::Dropped(number, q, pt, cause),
+                BareNote::Dropped {
+                    number,
+                    installer: q,
+                    point: pt,
+                    cause,
+                },
                 disk,
                 trace,
             )
@@ -122,8 +130,8 @@ fn graft_step<C: Calls, B: Policy, D: Disk>(
     requires { HasLevel C.Meaning.meaning running.old (D.seen disk.old) p 0 }
     ensures { CallStepDone (λ c r. placed_outcome C.Meaning.meaning p c
         (micro r.placed.world r.placed.images p (placed_config r.placed p)) r) p
-        (moment running.old trace.old.notes (D.seen disk.old))
-        (moment running.new trace.new.notes (D.seen disk.new)) }
+        (kernel_moment running.old trace.old.notes (D.seen disk.old))
+        (kernel_moment running.new trace.new.notes (D.seen disk.new)) }
 {
     let said = instruct(running, p);
     follow(running, p, said, disk, trace);
@@ -140,8 +148,8 @@ fn piece_step<C: Calls, B: Policy, D: Disk>(
     requires at { CanRun C.Meaning.meaning running.old (D.seen disk.old) p }
     requires none { (chain_of running.old p).levels ≡ [] }
     ensures { CallStepDone (λ c. placed_call_step C.Meaning.meaning p (Some c)) p
-        (moment running.old trace.old.notes (D.seen disk.old))
-        (moment running.new trace.new.notes (D.seen disk.new)) }
+        (kernel_moment running.old trace.old.notes (D.seen disk.old))
+        (kernel_moment running.new trace.new.notes (D.seen disk.new)) }
 {
     let flight = flight(&running.calls, p);
     let Some(call) = flight.call.get() else {
@@ -166,8 +174,8 @@ fn step_call<C: Calls, B: Policy, D: Disk>(
     requires at { CanRun C.Meaning.meaning running.old (D.seen disk.old) p }
     requires call { is_some (call_at running.old p) ≡ true }
     ensures { StepDone (placed_call_step C.Meaning.meaning p (call_at running.old p)) p
-        (moment running.old trace.old.notes (D.seen disk.old))
-        (moment running.new trace.new.notes (D.seen disk.new)) }
+        (kernel_moment running.old trace.old.notes (D.seen disk.old))
+        (kernel_moment running.new trace.new.notes (D.seen disk.new)) }
 {
     if flight(&running.calls, p).chain.levels.count() == 0 {
         return piece_step(running, p, disk, trace);
@@ -188,8 +196,8 @@ pub fn step<C: Calls, B: Policy, D: Disk>(
     requires call { is_some (call_at running.old p) ≡ true }
     requires free { placed_blocker C.Meaning.meaning (placed_of running.old) p ≡ None }
     ensures { RefinesAndKeeps C.Meaning.meaning (placed_step C.Meaning.meaning p)
-        (moment running.old trace.old.notes (D.seen disk.old))
-        (moment running.new trace.new.notes (D.seen disk.new)) }
+        (kernel_moment running.old trace.old.notes (D.seen disk.old))
+        (kernel_moment running.new trace.new.notes (D.seen disk.new)) }
 {
     step_call(running, p, disk, trace);
     requeue(running, p);
@@ -209,8 +217,8 @@ pub fn piece_alone<C: Calls, B: Policy, D: Disk>(
     requires idle { IsIdle running.old }
     requires plain { IsPlain running.old p }
     ensures went { RefinesAndKeeps C.Meaning.meaning (placed_step C.Meaning.meaning p)
-        (moment (joined_in p running.old) trace.old.notes (D.seen disk.old))
-        (moment (joined_if result p running.new) trace.new.notes (D.seen disk.new)) }
+        (kernel_moment (joined_in p running.old) trace.old.notes (D.seen disk.old))
+        (kernel_moment (joined_if result p running.new) trace.new.notes (D.seen disk.new)) }
     ensures idle { IsIdle running.new }
 {
     let flight = &mut running.calls[p as usize];
@@ -231,8 +239,8 @@ fn drop_call<C: Calls, B: Policy, D: Disk>(
     ensures { CallStepDone (λ c r. placed_outcome C.Meaning.meaning p c
         (level_dropped r.placed.world r.placed.objects
         (placed_config r.placed p).levels d cause) r) p
-        (moment running.old trace.old.notes (D.seen disk.old))
-        (moment running.new trace.new.notes (D.seen disk.new)) }
+        (kernel_moment running.old trace.old.notes (D.seen disk.old))
+        (kernel_moment running.new trace.new.notes (D.seen disk.new)) }
 {
     let said = fall(running, p, d, cause);
     follow(running, p, said, disk, trace);
@@ -251,8 +259,8 @@ pub fn drop_level<C: Calls, B: Policy, D: Disk>(
 )
     requires { HasLevel C.Meaning.meaning running.old (D.seen disk.old) p d }
     ensures { RefinesAndKeeps C.Meaning.meaning (placed_drop C.Meaning.meaning p d cause)
-        (moment running.old trace.old.notes (D.seen disk.old))
-        (moment running.new trace.new.notes (D.seen disk.new)) }
+        (kernel_moment running.old trace.old.notes (D.seen disk.old))
+        (kernel_moment running.new trace.new.notes (D.seen disk.new)) }
 {
     drop_call(running, p, d, cause, disk, trace);
     requeue(running, p);

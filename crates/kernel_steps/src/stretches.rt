@@ -8,8 +8,7 @@ ghost use Rattle.running_kernel.specs.Sound.{IsSoundFor};
 ghost use Rattle.kernel_steps.specs.Runs.{KeepsRunning};
 ghost use Rattle.running_kernel.specs.Views.{placed_of};
 
-use call_pieces::Calls;
-use graft_points::Policy;
+use call_pieces::{Calls, Policy};
 use running_kernel::Running;
 
 /// A stretch of process p's call, which is in a graft and doesn't wait: at most n quiet

@@ -3,8 +3,7 @@
 ghost use Rattle.std.specs.Prelude.{◌≡◌, [], IfOk};
 
 use crate::notes::Notes;
-use call_pieces::Gift;
-use disk_log::DiskLog;
+use call_pieces::{DiskLog, Gift};
 use kernel_model::NoMemory;
 use std::alloc::Global;
 

@@ -5,10 +5,10 @@ use crate::files::{Opened, open};
 use box_rewriter::{BoxedCode, rewrite};
 use gm_asm::disassemble;
 use gm_isa::{Instr, access_mask};
-use kernel_model::NoMemory;
-use lab_text::{RawImage, place_of};
+use kernel_data::NoMemory;
+use lab_lowering::{RawImage, place_of};
 use std::alloc::Global;
-use text_words::Parts;
+use text_words::{Parts, append};
 
 /// Shows the code of a graft, raw and boxed: the status.
 pub fn show(rt: &HostRuntime, path: &str, name: &str) -> u8 {
@@ -46,23 +46,16 @@ fn show_image(rt: &HostRuntime, image: &RawImage) -> u8 {
     }
 }
 
-fn add(out: &mut Vec<u8>, bytes: &[u8]) -> Result<(), NoMemory> {
-    match out.extend_from_slice(bytes) {
-        Ok(()) => Ok(()),
-        Err(_) => Err(NoMemory),
-    }
-}
-
 fn add_number(out: &mut Vec<u8>, n: usize) -> Result<(), NoMemory> {
     let mut digits = itoa::Buffer::new();
-    add(out, digits.format(n).as_bytes())
+    append(out, digits.format(n).as_bytes())
 }
 
 /// Appends spaces, so that the line that begins at `from` has so many bytes.
 fn pad(out: &mut Vec<u8>, from: usize, width: usize) -> Result<(), NoMemory> {
     let taken = out.len().saturating_sub(from);
     for _ in taken..width {
-        add(out, b" ")?;
+        append(out, b" ")?;
     }
     Ok(())
 }
@@ -81,22 +74,22 @@ fn boxed_text(alloc: Global, boxed: &BoxedCode) -> Result<Vec<u8>, NoMemory> {
 /// Appends a line of boxed code with its number, and moves on by one.
 fn add_boxed(out: &mut Vec<u8>, lines: &mut Parts, number: usize) -> Result<usize, NoMemory> {
     add_number_right(out, number)?;
-    add(out, b"  ")?;
-    add(out, lines.next().unwrap_or(b"".as_slice()))?;
-    add(out, b"\n")?;
+    append(out, b"  ")?;
+    append(out, lines.next().unwrap_or(b"".as_slice()))?;
+    append(out, b"\n")?;
     Ok(number.saturating_add(1))
 }
 
 /// Appends a number of at most four digits, set to the right.
 fn add_number_right(out: &mut Vec<u8>, n: usize) -> Result<(), NoMemory> {
     if n < 1000 {
-        add(out, b" ")?;
+        append(out, b" ")?;
     }
     if n < 100 {
-        add(out, b" ")?;
+        append(out, b" ")?;
     }
     if n < 10 {
-        add(out, b" ")?;
+        append(out, b" ")?;
     }
     add_number(out, n)
 }
@@ -116,8 +109,8 @@ fn add_both(
 ) -> Result<usize, NoMemory> {
     let from = out.len();
     add_number_right(out, pc)?;
-    add(out, b"  ")?;
-    add(out, raw.next().unwrap_or(b"".as_slice()))?;
+    append(out, b"  ")?;
+    append(out, raw.next().unwrap_or(b"".as_slice()))?;
     pad(out, from, COLUMN)?;
     let mut number = add_boxed(out, boxed, number)?;
     if access_mask(instr.op).is_some() {
@@ -142,10 +135,10 @@ fn side_by_side(alloc: Global, image: &RawImage, boxed: &BoxedCode) -> Result<Ve
         number = add_both(&mut out, pc, instr, &mut raw, &mut lines, number)?;
     }
     add_number(&mut out, image.code().len())?;
-    add(&mut out, b" instructions, in the sandbox ")?;
+    append(&mut out, b" instructions, in the sandbox ")?;
     add_number(&mut out, boxed.code().len())?;
-    add(&mut out, b"; data bytes ")?;
+    append(&mut out, b"; data bytes ")?;
     add_number(&mut out, image.body().len())?;
-    add(&mut out, b"\n")?;
+    append(&mut out, b"\n")?;
     Ok(out)
 }

@@ -5,11 +5,11 @@ use crate::edge::{NO_MEMORY, write_out};
 use crate::explain::explain;
 use crate::help::{help, help_of, no_words, wrong_words};
 use crate::picture::picture;
-use crate::run::{Telling, run};
+use crate::run::{Telling, run_file};
 use crate::script::script;
 use crate::test::test;
 use crate::watch::watch;
-use kernel_model::NoMemory;
+use kernel_data::NoMemory;
 use std::alloc::Global;
 
 /// The words behind the name of a command: flags, the value of `--disk`, and others.
@@ -77,7 +77,7 @@ fn obey_given(rt: &HostRuntime, name: &str, given: &Given) -> u8 {
                 plain: given.plain,
                 raw_heads: given.raw_heads,
             };
-            run(rt, path, telling, given.disk)
+            run_file(rt, path, telling, given.disk)
         }
         ("test", [_, ..]) => test(rt, given.others.as_slice()),
         ("script", [path]) => script(rt, path, given.key),
@@ -91,7 +91,7 @@ fn obey_given(rt: &HostRuntime, name: &str, given: &Given) -> u8 {
 fn obey_command(rt: &HostRuntime, name: &str, words: &[String]) -> u8 {
     match (name, words) {
         ("--help", []) | ("help", []) => help(rt),
-        ("--version", []) => write_out(rt, b"lab 0.1.0\n", 0),
+        ("--version", []) => write_out(rt, b"lab 0.9.0\n", 0),
         (_, [word]) if word.as_str() == "--help" => help_of(rt, name),
         ("help", [command]) => help_of(rt, command.as_str()),
         ("explain", _) => explain(rt, words),

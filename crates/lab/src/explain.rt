@@ -2,9 +2,10 @@
 
 use crate::edge::{NO_MEMORY, REFUSED, write_error, write_out};
 use crate::help::wrong_words;
-use kernel_model::NoMemory;
-use lab_words::{Code, Form, code_of, codes_page, explanation, form_of, tell};
+use kernel_data::NoMemory;
+use lab_words::{Code, Form, code_of, codes_page, explanation, form_of, sentence_of};
 use std::alloc::Global;
+use text_words::append;
 
 /// The code that a text is, or of which it is the line.
 fn code_in(text: &[u8]) -> Option<Code> {
@@ -14,14 +15,6 @@ fn code_in(text: &[u8]) -> Option<Code> {
             Some(Form::Coded(code)) => Some(code),
             _ => None,
         },
-    }
-}
-
-/// Appends bytes.
-fn append(out: &mut Vec<u8>, bytes: &[u8]) -> Result<(), NoMemory> {
-    match out.extend_from_slice(bytes) {
-        Ok(()) => Ok(()),
-        Err(_) => Err(NoMemory),
     }
 }
 
@@ -40,7 +33,7 @@ fn joined(alloc: Global, words: &[String]) -> Result<Vec<u8>, NoMemory> {
 /// What a code or a written line means; nothing where it is neither.
 fn meaning_of(alloc: Global, text: &[u8]) -> Result<Vec<u8>, NoMemory> {
     let mut out = Vec::new(alloc);
-    if let Some(sentence) = tell(alloc, text)? {
+    if let Some(sentence) = sentence_of(alloc, text)? {
         append(&mut out, sentence.as_slice())?;
         append(&mut out, b"\n")?;
     }

@@ -1,7 +1,7 @@
 //! Lab files, opened.
 
 use crate::edge::{NO_MEMORY, REFUSED, write_error};
-use lab_text::{LabFault, Lowered, lower};
+use lab_lowering::{LabFault, Lowered, lower};
 use std::fs;
 
 /// A lab file that was read and lowered.
@@ -28,7 +28,7 @@ pub fn open(rt: &HostRuntime, path: &str) -> Result<Opened, u8> {
 
 /// Tells why a file is refused: the status.
 fn refuse(rt: &HostRuntime, path: &str, text: &[u8], fault: LabFault) -> u8 {
-    match lab_faults::told(rt.alloc(), path.as_bytes(), text, fault) {
+    match lab_faults::tell_fault(rt.alloc(), path.as_bytes(), text, fault) {
         Ok(sentence) => {
             write_error(rt, sentence.as_slice());
             REFUSED

@@ -4,10 +4,10 @@ use crate::edge::{NO_MEMORY, REFUSED, write_error, write_out};
 use crate::files::{Opened, open};
 use crate::help::wrong_words;
 use crate::stock::run_lab;
-use kernel_model::NoMemory;
+use kernel_data::NoMemory;
 use lab_lines::pieces_of;
 use lab_picture::{Chosen, PictureFault, Row, draw, slow_script};
-use lab_run::Ran;
+use lab_watch::Ran;
 use std::alloc::Global;
 use text_words::{Parts, number_of};
 

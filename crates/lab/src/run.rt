@@ -3,9 +3,9 @@
 use crate::edge::{NO_MEMORY, OUTPUT_FAILED, write_out};
 use crate::files::{Opened, open};
 use crate::stock::run_lab;
-use kernel_model::NoMemory;
+use kernel_data::NoMemory;
 use lab_lines::told;
-use lab_run::Ran;
+use lab_watch::Ran;
 
 /// How a run is told.
 #[derive(Clone, Copy)]
@@ -17,7 +17,7 @@ pub struct Telling {
 }
 
 /// Runs a lab file and tells of it: the status.
-pub fn run(rt: &HostRuntime, path: &str, telling: Telling, disk: Option<&str>) -> u8 {
+pub fn run_file(rt: &HostRuntime, path: &str, telling: Telling, disk: Option<&str>) -> u8 {
     match open(rt, path) {
         Err(status) => status,
         Ok(opened) => run_opened(rt, &opened, telling, disk).unwrap_or(NO_MEMORY),

@@ -3,51 +3,12 @@
 use graft_points::{
     Policy, RaNext, RaNone, RaSeq, SchedNice, SchedRound, VictimLru, VictimMark, is_stock, put_last,
 };
-use kernel_model::NoMemory;
-use lab_run::{Ran, run_script};
-use lab_text::{Lab, Lowered};
-use lab_watch::tell;
-use mem_disk::MemDisk;
-use real_edge::FileDisk;
+use kernel_data::NoMemory;
+use lab_lowering::{Lab, Lowered};
+use lab_watch::{Ran, run_script, tell_watched};
+use mem_disk::{Disk, MemDisk};
+use real_edge::{FileDisk, open_disk};
 use std::alloc::{AllocError, Global};
-use std::fs::{File, OpenOptions};
-use std::io;
-use vino_base::Disk;
-
-/// The most blocks of a disk that are used.
-const BLOCKS: u64 = 4096;
-
-/// The bytes of a block.
-const BLOCK_BYTES: u64 = 512;
-
-/// The first blocks of a file as a disk; a closed disk where there is no such file or it has none.
-fn file_disk(rt: &HostRuntime, path: &str) -> FileDisk {
-    open_disk(rt, path).unwrap_or(FileDisk::closed())
-}
-
-/// Opens a disk. A new file takes the lowest descriptor that is free, so where a standard stream is
-/// closed the disk would stand in its place. Therefore three others are opened first.
-fn open_disk(rt: &HostRuntime, path: &str) -> io::Result<FileDisk> {
-    let _input = open_null(rt)?;
-    let _output = open_null(rt)?;
-    let _errors = open_null(rt)?;
-    open_blocks(rt, path)
-}
-
-/// A file that holds nothing.
-fn open_null(rt: &HostRuntime) -> io::Result<File> {
-    OpenOptions::new().read(true).open(rt, "/dev/null")
-}
-
-/// The whole blocks of a file as a disk.
-fn open_blocks(rt: &HostRuntime, path: &str) -> io::Result<FileDisk> {
-    let file = OpenOptions::new().read(true).write(true).open(rt, path)?;
-    let blocks = file.metadata()?.len() / BLOCK_BYTES;
-    Ok(match u32::try_from(blocks.min(BLOCKS)) {
-        Ok(size) if size >= 1 => FileDisk::new(file, size),
-        _ => FileDisk::closed(),
-    })
-}
 
 /// Runs the script of a lab file, over the file of this name as the disk where there is one, else
 /// over the disk that the lab file asks for.
@@ -58,7 +19,7 @@ pub fn run_lab(rt: &HostRuntime, lowered: &Lowered, disk: Option<&str>) -> Resul
     };
     match disk.or(named) {
         Some(path) => {
-            let mut disk = file_disk(rt, path);
+            let mut disk = open_disk(rt, path);
             run_over(rt.alloc(), lowered, &mut disk)
         }
         None => {
@@ -121,7 +82,7 @@ pub fn spare_disk(rt: &HostRuntime, lowered: &Lowered) -> Result<Spare, NoMemory
         None => Ok(Spare::Memory(memory_disk(rt.alloc(), &lowered.lab)?)),
         Some(path) => {
             let path = str::from_utf8(path.bytes()).unwrap_or("");
-            let bytes = bytes_of(rt.alloc(), &mut file_disk(rt, path))?;
+            let bytes = bytes_of(rt.alloc(), &mut open_disk(rt, path))?;
             if bytes.is_empty() || bytes.len() % 512 != 0 || bytes.len() > 512 * 4096 {
                 return Ok(Spare::Closed);
             }
@@ -187,5 +148,5 @@ fn tell_stock<D: Disk + Drop>(
     if !is_stock(&shelf) {
         unreachable!()
     }
-    Ok(tell(alloc, lowered, &ran.lines, disk, shelf))
+    Ok(tell_watched(alloc, lowered, &ran.lines, disk, shelf))
 }

@@ -4,9 +4,9 @@ use crate::edge::{NO_MEMORY, REFUSED, UNWANTED, write_out};
 use crate::files::open;
 use crate::run::status_of;
 use crate::stock::run_lab;
-use kernel_model::NoMemory;
+use kernel_data::NoMemory;
 use lab_lines::{compare, pieces_of};
-use lab_text::Lowered;
+use lab_lowering::Lowered;
 
 /// How many files passed and failed, and the status so far.
 #[derive(Clone, Copy)]

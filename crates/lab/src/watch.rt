@@ -4,8 +4,8 @@ use crate::edge::{NO_MEMORY, write_out};
 use crate::files::open;
 use crate::run::status_of;
 use crate::stock::{run_lab, spare_disk, tell_lab};
-use kernel_model::NoMemory;
-use lab_text::Lowered;
+use kernel_data::NoMemory;
+use lab_lowering::Lowered;
 
 /// Runs a lab file and tells where its grafts stood before each of their instructions: the status.
 pub fn watch(rt: &HostRuntime, path: &str) -> u8 {

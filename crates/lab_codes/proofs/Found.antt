@@ -1,13 +1,13 @@
 -- Each code is found by what is printed: the texts are compared one after another.
 use Rattle.std.proofs.Common.{refl, lit<}
 use Rattle.std.proofs.lemmas.Fmt.{decimal_digit}
-use Rattle.kernel_model.specs.declared.Refusal.TheVariants as refusal
-use Rattle.kernel_model.specs.declared.Cause.TheVariants as cause
-use Rattle.kernel_model.specs.declared.AsmKind.TheVariants as assembler
-use Rattle.kernel_model.specs.declared.language.LangKind.TheVariants as language
-use Rattle.kernel_model.specs.Script.{ScriptFault}
-use Rattle.kernel_model.specs.Images.{LoadFault}
-use Rattle.kernel_model.specs.Boxed.{RewriteFault}
+use Rattle.script_model.specs.declared.Refusal.TheVariants as refusal
+use Rattle.script_model.specs.declared.Cause.TheVariants as cause
+use Rattle.script_model.specs.declared.AsmKind.TheVariants as assembler
+use Rattle.script_model.specs.declared.LangKind.TheVariants as language
+use Rattle.script_model.specs.Script.{ScriptFault}
+use Rattle.script_model.specs.Images.{LoadFault}
+use Rattle.script_model.specs.Boxed.{RewriteFault}
 use Rattle.lab_codes.specs.declared.code.Code.TheVariants as code
 use Rattle.lab_codes.specs.declared.code.ScriptCode.TheVariants as script
 use Rattle.lab_codes.specs.declared.code.CallCode.TheVariants as call
@@ -16,7 +16,9 @@ use Rattle.lab_codes.specs.declared.code.ImageCode.TheVariants as image
 use Rattle.lab_codes.specs.declared.code.RewriterCode.TheVariants as rewriter
 use Rattle.lab_codes.specs.declared.code.InputCode.TheVariants as input
 use Rattle.lab_codes.specs.declared.code.StatusCode.TheVariants as status
-use Rattle.lab_codes.specs.Printed.{CodesAreFound, LinesAreFound, CallsAreFound, DropsAreFound, ImagesAreFound, AssemblerIsFound, LanguageIsFound, RewriterIsFound}
+use Rattle.lab_codes.specs.Printed.{CodesAreFound, LinesAreFound, CallsAreFound, DropsAreFound}
+use Rattle.lab_codes.specs.Printed.{ImagesAreFound, AssemblerIsFound, LanguageIsFound}
+use Rattle.lab_codes.specs.Printed.{RewriterIsFound}
 
 pub script-lines-are-found : LinesAreFound
 script-lines-are-found ScriptFault.BadWord = rw (decimal_digit 1 (lit< tt)) refl

@@ -1,7 +1,7 @@
 -- The codes and their texts.
 use Rattle.std.specs.Prelude.{ℕ, List, Option, find, codes}
-use Rattle.kernel_model.specs.World.{same_bytes}
-use Rattle.kernel_model.specs.Filters.{asm_kind_text, lang_kind_text}
+use Rattle.script_model.specs.World.{same_bytes}
+use Rattle.script_model.specs.Filters.{asm_kind_text, lang_kind_text}
 use Rattle.lab_codes.specs.declared.code.Code.{Code}
 use Rattle.lab_codes.specs.declared.code.Code.TheVariants as code
 use Rattle.lab_codes.specs.declared.code.TheConstants.{CODES}

@@ -1,2 +1,4 @@
 pub mod Codes
+pub mod Pages
 pub mod Printed
+pub mod Rows

@@ -1,16 +1,17 @@
 -- Which code each refusal and each cause of the kernel has, and that it is found by what is printed.
 use Rattle.std.specs.Prelude.{◌≡◌, ℕ, List, ◌++◌, codes, decimal, Some}
-use Rattle.kernel_model.specs.declared.Refusal.{Refusal}
-use Rattle.kernel_model.specs.declared.Refusal.TheVariants as refusal
-use Rattle.kernel_model.specs.declared.Cause.{Cause}
-use Rattle.kernel_model.specs.declared.Cause.TheVariants as cause
-use Rattle.kernel_model.specs.declared.AsmKind.{AsmKind}
-use Rattle.kernel_model.specs.declared.language.LangKind.{LangKind}
-use Rattle.kernel_model.specs.Script.{ScriptFault, fault_number, words_of, first_word}
-use Rattle.kernel_model.specs.Images.{LoadFault}
-use Rattle.kernel_model.specs.Boxed.{RewriteFault}
-use Rattle.kernel_model.specs.Text.{refusal_text, cause_text, load_fault_text}
-use Rattle.kernel_model.specs.Filters.{asm_kind_text, lang_kind_text, rewrite_fault_text}
+use Rattle.script_model.specs.declared.Refusal.{Refusal}
+use Rattle.script_model.specs.declared.Refusal.TheVariants as refusal
+use Rattle.script_model.specs.declared.Cause.{Cause}
+use Rattle.script_model.specs.declared.Cause.TheVariants as cause
+use Rattle.script_model.specs.declared.AsmKind.{AsmKind}
+use Rattle.script_model.specs.declared.LangKind.{LangKind}
+use Rattle.script_model.specs.Script.{ScriptFault, fault_number, words_of, first_word}
+use Rattle.script_model.specs.Images.{LoadFault}
+use Rattle.script_model.specs.Boxed.{RewriteFault}
+use Rattle.script_model.specs.Text.{refusal_text, cause_text}
+use Rattle.script_model.specs.ImageTexts.{load_fault_text}
+use Rattle.script_model.specs.Filters.{asm_kind_text, lang_kind_text, rewrite_fault_text}
 use Rattle.lab_codes.specs.declared.code.Code.{Code}
 use Rattle.lab_codes.specs.declared.code.Code.TheVariants as code
 use Rattle.lab_codes.specs.declared.code.ScriptCode.{ScriptCode}

@@ -1,11 +1,11 @@
 //! The codes that the program writes, and the texts by which they are found.
 
 ghost use Rattle.std.specs.Prelude.{◌≡◌, find};
-ghost use Rattle.kernel_model.specs.World.{same_bytes};
-ghost use Rattle.kernel_model.specs.Filters.{asm_kind_text, lang_kind_text};
+ghost use Rattle.script_model.specs.World.{same_bytes};
+ghost use Rattle.script_model.specs.Filters.{asm_kind_text, lang_kind_text};
 ghost use Rattle.lab_codes.specs.Codes as spec;
 
-use kernel_model::{AsmKind, LangKind};
+use script_model::{AsmKind, LangKind};
 
 /// Refused lines of a script, in the order of the codes.
 #[derive(Clone, Copy, Debug, PartialEq, Eq)]

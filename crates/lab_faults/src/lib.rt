@@ -5,4 +5,4 @@ mod operands;
 mod sentence;
 mod spans;
 
-pub use crate::sentence::told;
+pub use crate::sentence::tell_fault;

@@ -5,10 +5,11 @@ ghost use Rattle.lab_faults.specs.Places as spec;
 
 use crate::operands::{Wrong, check_statement};
 use crate::spans::{Span, bytes_of, code_end, column_of, next_part, next_word, word_span};
-use kernel_model::NoMemory;
-use lab_tokens::{AsmKind, LabFault, LabKind};
-use lab_words::{Code, part_at, text_of, words_of};
+use kernel_data::NoMemory;
+use lab_reader::{AsmKind, LabFault, LabKind};
+use lab_words::{Code, text_of, words_of};
 use std::alloc::Global;
+use text_words::{append, part_at};
 
 /// A fault in words: where in its line, its code if it has one, and what is said.
 #[derive(Drop)]
@@ -17,18 +18,10 @@ struct Sentence {
     text: Vec<u8>,
 }
 
-/// Appends bytes.
-fn add(out: &mut Vec<u8>, bytes: &[u8]) -> Result<(), NoMemory> {
-    match out.extend_from_slice(bytes) {
-        Ok(()) => Ok(()),
-        Err(_) => Err(NoMemory),
-    }
-}
-
 /// Appends a number.
 fn add_number(out: &mut Vec<u8>, n: usize) -> Result<(), NoMemory> {
     let mut digits = itoa::Buffer::new();
-    add(out, digits.format(n).as_bytes())
+    append(out, digits.format(n).as_bytes())
 }
 
 /// Line n of a text, from 1, without its newline; line 0 is empty.
@@ -75,27 +68,27 @@ fn wrong_in(line: &[u8]) -> Option<Wrong> {
 /// Appends what is wrong with a word.
 fn add_wrong(out: &mut Vec<u8>, line: &[u8], wrong: Wrong) -> Result<(), NoMemory> {
     if wrong.named {
-        add(out, b"'")?;
-        add(out, bytes_of(line, wrong.span))?;
-        add(out, b"' ")?;
+        append(out, b"'")?;
+        append(out, bytes_of(line, wrong.span))?;
+        append(out, b"' ")?;
     }
-    add(out, wrong.said.as_bytes())?;
-    add(out, b" (")?;
-    add(out, wrong.hint.as_bytes())?;
-    add(out, b")")
+    append(out, wrong.said.as_bytes())?;
+    append(out, b" (")?;
+    append(out, wrong.hint.as_bytes())?;
+    append(out, b")")
 }
 
 /// Appends a code, a colon and a space.
 fn add_code(out: &mut Vec<u8>, code: Code) -> Result<(), NoMemory> {
-    add(out, text_of(code))?;
-    add(out, b": ")
+    append(out, text_of(code))?;
+    append(out, b": ")
 }
 
 /// What is said of a line that the assembler or the compiler refuses, where no word is to blame.
 fn coded(alloc: Global, line: &[u8], code: Code) -> Result<Sentence, NoMemory> {
     let mut text = Vec::new(alloc);
     add_code(&mut text, code)?;
-    add(&mut text, words_of(code).meaning.as_bytes())?;
+    append(&mut text, words_of(code).meaning.as_bytes())?;
     Ok(Sentence {
         at: first_of(line),
         text,
@@ -125,13 +118,13 @@ fn assembler(alloc: Global, line: &[u8], kind: AsmKind) -> Result<Sentence, NoMe
 /// What is said of code that can't be boxed, with the number of the instruction.
 fn unboxed(alloc: Global, line: &[u8], pc: u32, said: &str) -> Result<Sentence, NoMemory> {
     let mut text = Vec::new(alloc);
-    add(
+    append(
         &mut text,
         b"the graft can't be put into its sandbox: instruction ",
     )?;
     add_number(&mut text, pc as usize)?;
-    add(&mut text, b" ")?;
-    add(&mut text, said.as_bytes())?;
+    append(&mut text, b" ")?;
+    append(&mut text, said.as_bytes())?;
     Ok(Sentence {
         at: place_of_word(line, 2).from,
         text,
@@ -230,11 +223,11 @@ fn plain(alloc: Global, line: &[u8], kind: LabKind) -> Result<Sentence, NoMemory
     };
     let mut text = Vec::new(alloc);
     if names_word(kind) {
-        add(&mut text, b"'")?;
-        add(&mut text, bytes_of(line, word))?;
-        add(&mut text, b"' ")?;
+        append(&mut text, b"'")?;
+        append(&mut text, bytes_of(line, word))?;
+        append(&mut text, b"' ")?;
     }
-    add(&mut text, said.as_bytes())?;
+    append(&mut text, said.as_bytes())?;
     Ok(Sentence {
         at: word.from,
         text,
@@ -266,16 +259,16 @@ fn add_caret(out: &mut Vec<u8>, line: &[u8], at: usize) -> Result<(), NoMemory> 
         [front @ .., b'\r'] => front,
         _ => line,
     };
-    add(out, shown)?;
-    add(out, b"\n")?;
+    append(out, shown)?;
+    append(out, b"\n")?;
     for byte in &line[..at.min(line.len())] {
         if *byte == b'\t' {
-            add(out, b"\t")?;
+            append(out, b"\t")?;
         } else if *byte & 0xc0 != 0x80 {
-            add(out, b" ")?;
+            append(out, b" ")?;
         }
     }
-    add(out, b"^\n")
+    append(out, b"^\n")
 }
 
 /// Appends `FILE:LINE:COLUMN: SENTENCE`, the line and a caret.
@@ -286,14 +279,14 @@ fn add_place(
     line: &[u8],
     said: &Sentence,
 ) -> Result<(), NoMemory> {
-    add(out, file)?;
-    add(out, b":")?;
+    append(out, file)?;
+    append(out, b":")?;
     add_number(out, n)?;
-    add(out, b":")?;
+    append(out, b":")?;
     add_number(out, column_of(line, said.at))?;
-    add(out, b": ")?;
-    add(out, said.text.as_slice())?;
-    add(out, b"\n")?;
+    append(out, b": ")?;
+    append(out, said.text.as_slice())?;
+    append(out, b"\n")?;
     add_caret(out, line, said.at)
 }
 
@@ -315,22 +308,27 @@ fn line_of(text: &[u8], at: usize) -> (usize, usize)
 
 /// Why a file with this name and text is refused: `FILE:LINE:COLUMN: SENTENCE`, the line, and a
 /// caret below it; or a sentence alone of the whole file.
-pub fn told(alloc: Global, file: &[u8], text: &[u8], fault: LabFault) -> Result<Vec<u8>, NoMemory> {
+pub fn tell_fault(
+    alloc: Global,
+    file: &[u8],
+    text: &[u8],
+    fault: LabFault,
+) -> Result<Vec<u8>, NoMemory> {
     let mut out = Vec::new(alloc);
     match fault {
         LabFault::NoMemory => return Err(NoMemory),
         LabFault::TooLong => {
-            add(&mut out, file)?;
-            add(&mut out, b": the file has more than 16777216 bytes\n")?;
+            append(&mut out, file)?;
+            append(&mut out, b": the file has more than 16777216 bytes\n")?;
         }
         LabFault::NotUtf8(at) => {
             let (n, from) = line_of(text, at);
-            add(&mut out, file)?;
-            add(&mut out, b":")?;
+            append(&mut out, file)?;
+            append(&mut out, b":")?;
             add_number(&mut out, n)?;
-            add(&mut out, b":")?;
+            append(&mut out, b":")?;
             add_number(&mut out, at.saturating_sub(from).saturating_add(1))?;
-            add(
+            append(
                 &mut out,
                 b": the file isn't UTF-8 from this byte of the line on\n",
             )?;

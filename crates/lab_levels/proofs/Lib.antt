@@ -1,3 +1,5 @@
+mod Collecting
 mod Fitting
 mod Origins
+mod Weaving
 pub mod Ranges

@@ -1,11 +1,13 @@
 -- Boxed code and instructions as they were written, place by place.
-use Rattle.std.proofs.Common.{◌≡◌, ◌≢◌, ◌==◌, ℕ, suc, ◌++◌, ap, ◌+◌, ◌-◌, ◌*◌, ◌≤◌, ◌<◌, true, false, List, [], ◌∷◌, drop, get_or, length, Option, None, Some, arith, sym, ◌∙◌}
+use Rattle.std.proofs.Common.{◌≡◌, ◌≢◌, ◌==◌, ℕ, suc, ◌++◌, ap, ◌+◌, ◌-◌, ◌*◌, ◌≤◌, ◌<◌, true}
+use Rattle.std.proofs.Common.{false, List, [], ◌∷◌, drop, get_or, length, Option, None, Some}
+use Rattle.std.proofs.Common.{arith, sym, ◌∙◌}
 use Rattle.std.proofs.lemmas.Grind.{common_steps}
 use Rattle.std.proofs.Math.Seq.{drop-cons}
 use Rattle.std.specs.Prelude.{filter, slice_get}
 use Rattle.std.specs.List.{zip, slice_split}
 use Rattle.std.proofs.lemmas.List.{append-nil}
-use Rattle.kernel_model.specs.declared.Instr.{Instr}
+use Rattle.script_model.specs.declared.Instr.{Instr}
 use Rattle.lab_levels.specs.Written.{written_place, is_instruction, numbered_line, written_said}
 
 -- the place is not a part of the first so many instructions, which became so many
@@ -95,7 +97,8 @@ found_said numbers items text lines rest k i count line old mid new same at s in
     rw (← same, found) (said ∙ ap (λ t. t ++ numbered_line (get_or items i 0) line) kept)
 
 -- the line is one, and not yet the one
-pub ahead_more : (items : List ℕ) (all lines : List (List ℕ)) (k i count counted : ℕ) (line : List ℕ) (rest : List (List ℕ))
+pub ahead_more : (items : List ℕ) (all lines : List (List ℕ)) (k i count counted : ℕ)
+    (line : List ℕ) (rest : List (List ℕ))
     → lines ≡ line ∷ rest → i < length items
     → is_instruction line ≡ true → count ≢ k → counted ≡ count + 1
     → IsAhead items all k i count lines → IsAhead items all k (i + 1) counted rest
@@ -109,7 +112,8 @@ ahead_more items all lines k i count counted line rest at inside is other more s
     }
 
 -- the line is none
-pub ahead_next : (items : List ℕ) (all lines : List (List ℕ)) (k i count counted : ℕ) (line : List ℕ) (rest : List (List ℕ))
+pub ahead_next : (items : List ℕ) (all lines : List (List ℕ)) (k i count counted : ℕ)
+    (line : List ℕ) (rest : List (List ℕ))
     → lines ≡ line ∷ rest → i < length items
     → is_instruction line ≡ false → counted ≡ count → IsAhead items all k i count lines
     → IsAhead items all k (i + 1) counted rest

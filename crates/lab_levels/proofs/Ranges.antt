@@ -3,7 +3,7 @@ use Rattle.std.proofs.Common.{◌≡◌, ℕ, ◌+◌, ◌-◌, ◌*◌, ◌≤�
 use Rattle.std.proofs.Math.Seq.{take-add}
 use Rattle.std.proofs.lemmas.List.{length-take-le, length-drop, take_all}
 use Rattle.std.specs.Prelude.{slice_range}
-use Rattle.kernel_model.specs.World.{same_bytes}
+use Rattle.script_model.specs.World.{same_bytes}
 use Rattle.lab_levels.specs.Outside.{same_between}
 
 -- where a range ends
@@ -13,7 +13,8 @@ range_end xs a b order inside =
     omega (arith, long, order)
 
 pub has_range : (before after : List ℕ) (a b : ℕ) (found : Bool) → a ≤ b → b ≤ length before →
-    found ≡ same_bytes (slice_range after a (a + length (slice_range before a b))) (slice_range before a b) → found ≡ same_between a b before after
+    found ≡ same_bytes (slice_range after a (a + length (slice_range before a b)))
+    (slice_range before a b) → found ≡ same_between a b before after
 has_range before after a b found order inside is =
     is ∙ ap (λ n. same_bytes (slice_range after a n) (slice_range before a b)) (range_end before a b order inside)
 

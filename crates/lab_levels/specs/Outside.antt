@@ -2,7 +2,7 @@
 use Rattle.std.specs.Prelude.{ℕ, ◌+◌, ◌-◌, ◌*◌, ◌^◌, ◌==◌, Bool, true, false, ◌&&◌, cond, min}
 use Rattle.std.specs.Prelude.{nat_le, List, [], ◌++◌, length, take, drop, slice_range, codes}
 use Rattle.std.specs.Prelude.{decimal, Option, None, Some}
-use Rattle.kernel_model.specs.World.{same_bytes}
+use Rattle.script_model.specs.World.{same_bytes}
 use Rattle.lab_levels.specs.declared.view.LevelRow.{LevelRow}
 use Rattle.lab_levels.specs.Places.{has_gone_on}
 

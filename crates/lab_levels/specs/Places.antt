@@ -1,8 +1,8 @@
 -- Where an instruction leads, and where a level stands from one moment to the next.
 use Rattle.std.specs.Prelude.{ℕ, ◌+◌, ◌-◌, ◌^◌, ◌==◌, ◌&&◌, Bool, true, cond, min, nat_lt, Option, None, Some}
-use Rattle.kernel_model.specs.declared.Instr.{Instr}
-use Rattle.kernel_model.specs.declared.Op.{Op}
-use Rattle.kernel_model.specs.declared.Op.TheVariants.{Jmp, Jz, Jnz}
+use Rattle.script_model.specs.declared.Instr.{Instr}
+use Rattle.script_model.specs.declared.Op.{Op}
+use Rattle.script_model.specs.declared.Op.TheVariants.{Jmp, Jz, Jnz}
 use Rattle.lab_levels.specs.declared.seats.Seat.{Seat}
 use Rattle.lab_levels.specs.declared.view.LevelRow.{LevelRow}
 

@@ -1,7 +1,7 @@
 -- What is known of each level of each process.
 use Rattle.std.specs.Prelude.{ℕ, ◌+◌, ◌*◌, Bool, false, not, ◌||◌, nat_lt, List, Option, None, Some}
 use Rattle.std.specs.Prelude.{slice_index, slice_index_or, slice_set}
-use Rattle.kernel_model.specs.declared.Instr.{Instr}
+use Rattle.script_model.specs.declared.Instr.{Instr}
 use Rattle.lab_levels.specs.declared.seats.Seat.{Seat}
 use Rattle.lab_levels.specs.declared.view.LevelRow.{LevelRow}
 use Rattle.lab_levels.specs.Places.{seat_after}

@@ -2,8 +2,8 @@
 use Rattle.std.specs.Prelude.{ℕ, ◌+◌, ◌*◌, ◌==◌, ◌&&◌, cond, List, [], ◌∷◌, ◌++◌, Option, None, Some, slice_index}
 use Rattle.std.specs.List.{find}
 use Rattle.std.specs.Option.{option_or}
-use Rattle.kernel_model.specs.declared.RawRow.{RawRow}
-use Rattle.kernel_model.specs.declared.RawRow.TheVariants.{Level, Graft}
+use Rattle.script_model.specs.declared.RawRow.{RawRow}
+use Rattle.script_model.specs.declared.RawRow.TheVariants.{Level, Graft}
 use Rattle.lab_levels.specs.declared.view.LevelRow.{LevelRow}
 
 -- the rows, the levels among them, and the registers of the innermost levels, 16 behind 16

@@ -1,12 +1,12 @@
 -- The state of calls in words.
 use Rattle.std.specs.Prelude.{ℕ, ◌+◌, List, [], ◌++◌, codes, Some, flat_map}
-use Rattle.kernel_model.specs.declared.Object.{Object}
-use Rattle.kernel_model.specs.declared.Object.TheVariants as object
-use Rattle.kernel_model.specs.declared.Inverse.{Inverse}
-use Rattle.kernel_model.specs.declared.Inverse.TheVariants as inverse
-use Rattle.kernel_model.specs.declared.WaitRow.{WaitRow}
-use Rattle.kernel_model.specs.declared.RawRow.{RawRow}
-use Rattle.kernel_model.specs.declared.RawRow.TheVariants as row
+use Rattle.script_model.specs.declared.Object.{Object}
+use Rattle.script_model.specs.declared.Object.TheVariants as object
+use Rattle.script_model.specs.declared.Inverse.{Inverse}
+use Rattle.script_model.specs.declared.Inverse.TheVariants as inverse
+use Rattle.script_model.specs.declared.WaitRow.{WaitRow}
+use Rattle.script_model.specs.declared.RawRow.{RawRow}
+use Rattle.script_model.specs.declared.RawRow.TheVariants as row
 use Rattle.lab_levels.specs.Outside.{numbered}
 
 -- what is the b-th one of a process

@@ -4,14 +4,14 @@ use Rattle.std.specs.Prelude.{nat_lt, List, [], ◌∷◌, ◌++◌, length, cod
 use Rattle.std.specs.Prelude.{is_some, filter, slice_get, slice_index}
 use Rattle.std.specs.List.{slice_split, zip}
 use Rattle.std.specs.Option.{option_map_or}
-use Rattle.kernel_model.specs.declared.Instr.{Instr}
-use Rattle.kernel_model.specs.World.{Image, plain_image}
-use Rattle.kernel_model.specs.Assembler.{disassemble}
-use Rattle.kernel_model.specs.Boxed.{access_width}
-use Rattle.kernel_model.specs.Script.{first_word}
-use Rattle.lab_sheet.specs.Grafts.{Graft}
-use Rattle.lab_sheet.specs.declared.graft.Notation.{Notation}
-use Rattle.lab_sheet.specs.declared.graft.Notation.TheVariants as notation
+use Rattle.script_model.specs.declared.Instr.{Instr}
+use Rattle.script_model.specs.World.{Image, plain_image}
+use Rattle.script_model.specs.Assembler.{disassemble}
+use Rattle.script_model.specs.Boxed.{access_width}
+use Rattle.script_model.specs.Script.{first_word}
+use Rattle.lab_reader.specs.Grafts.{Graft}
+use Rattle.lab_reader.specs.declared.graft.Notation.{Notation}
+use Rattle.lab_reader.specs.declared.graft.Notation.TheVariants as notation
 use Rattle.lab_levels.specs.declared.code.Origin.{Origin}
 use Rattle.lab_levels.specs.Outside.{numbered}
 

@@ -3,18 +3,18 @@
 ghost use Rattle.std.specs.Prelude.{◌≡◌, ◌++◌, [], true, cond, nat_lt, length, codes, slice_get, OnOk, IfOk};
 ghost use Rattle.std.specs.List.{list_all};
 ghost use Rattle.std.specs.Option.{option_map_or};
-ghost use Rattle.kernel_model.specs.Instructions.{fits};
+ghost use Rattle.script_model.specs.Instructions.{fits};
 ghost use Rattle.lab_levels.specs.Written as written;
 
 use crate::outside::append_numbered;
+use crate::own_lines::count_of;
 use gm_asm::disassemble;
 use gm_isa::{Instr, access_mask};
 use graft_loader::Loaded;
-use kernel_model::NoMemory;
-use lab_text::{Graft, Lowered, Notation, RawImage};
-use lab_weave::{append, count_of};
+use lab_lowering::{Graft, Lowered, Notation, RawImage};
+use script_model::NoMemory;
 use std::alloc::Global;
-use text_words::Parts;
+use text_words::{Parts, append};
 
 /// The graft that a slot's image was made of, and whether it was sealed as it stands.
 #[derive(Clone, Copy)]

@@ -6,11 +6,11 @@ ghost use Rattle.lab_levels.specs.Outside as spec;
 ghost use Rattle.lab_levels.specs.Places as places;
 
 use crate::view::LevelRow;
-use kernel_model::NoMemory;
-use lab_weave::{append, append_with};
 use ram_space::{RAM_BYTES, Ram};
+use script_model::NoMemory;
 use std::alloc::Global;
 use std::marker::Model;
+use text_words::{append, append_with};
 
 /// Where the first segment begins in memory.
 const FIRST_SEGMENT: usize = 262_144;

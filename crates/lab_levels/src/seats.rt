@@ -7,12 +7,13 @@ ghost use Rattle.std.specs.Prelude.{◌≡◌, ◌<◌, ◌+◌, ◌*◌, ◌^�
 ghost use Rattle.lab_levels.specs.Places as spec;
 ghost use Rattle.lab_levels.specs.Seats as seats;
 
+use crate::own_lines::count_of;
 use crate::view::{LevelRow, PROCESSES, REGISTERS, View};
 use gm_isa::{Instr, Op};
-use kernel_model::NoMemory;
-use lab_weave::{append_with, count_of};
+use script_model::NoMemory;
 use std::alloc::{AllocError, Global};
 use std::marker::Model;
+use text_words::append_with;
 
 /// The most levels of a call.
 pub const LEVELS: u8 = 4;
@@ -206,7 +207,7 @@ impl Seats {
     }
 
     /// A new level's registers were zeros, and its segment what it is.
-    pub fn begin(&mut self, p: u8, depth: u8, segment: &[u8]) {
+    pub fn begin_level(&mut self, p: u8, depth: u8, segment: &[u8]) {
         for i in 0..REGISTERS {
             self.keep_register(p, depth, i, 0);
         }

@@ -3,9 +3,10 @@
 ghost use Rattle.std.specs.Prelude.{◌≡◌, ◌++◌, [], ◌∷◌, OnOk};
 ghost use Rattle.lab_levels.specs.Seen as spec;
 
-use kernel_model::{NoMemory, RawRow};
+use script_model::{NoMemory, RawRow};
 use std::alloc::Global;
 use std::marker::Model;
+use text_words::put;
 
 /// The processes.
 pub const PROCESSES: u8 = 16;
@@ -56,7 +57,13 @@ fn level_of(row: &RawRow) -> Option<LevelRow>
     ensures { result ≡ spec.level_in row.now }
 {
     match row {
-        RawRow::Level(process, depth, owner, point, count) => Some(LevelRow {
+        RawRow::Level {
+            process,
+            depth,
+            installer: owner,
+            point,
+            taken: count,
+        } => Some(LevelRow {
             process: *process,
             depth: *depth,
             owner: *owner,
@@ -64,16 +71,6 @@ fn level_of(row: &RawRow) -> Option<LevelRow>
             count: *count,
         }),
         _ => None,
-    }
-}
-
-/// Puts an item behind others.
-fn put<T: Drop>(items: &mut Vec<T>, item: T) -> Result<(), NoMemory>
-    ensures { OnOk result (items.new.items ≡ items.old.items ++ item ∷ []) }
-{
-    match items.push(item) {
-        Ok(()) => Ok(()),
-        Err(_) => Err(NoMemory),
     }
 }
 
@@ -104,9 +101,12 @@ fn slot_in(row: &RawRow, owner: u8, point: u8) -> Option<u32>
     ensures { result ≡ spec.slot_in owner point row.now }
 {
     match row {
-        RawRow::Graft(q, pt, slot, _, _, _) if *q == owner && *pt == point => {
-            Some(u32::from(*slot))
-        }
+        RawRow::Graft {
+            installer: q,
+            point: pt,
+            slot,
+            ..
+        } if *q == owner && *pt == point => { Some(u32::from(*slot)) }
         _ => None,
     }
 }

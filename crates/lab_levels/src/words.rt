@@ -5,9 +5,9 @@ ghost use Rattle.lab_levels.specs.Told as told;
 
 use crate::outside::append_numbered;
 use crate::view::View;
-use kernel_model::{Inverse, NoMemory, Object, RawRow, WaitRow};
-use lab_weave::append;
+use script_model::{Inverse, NoMemory, Object, RawRow, WaitRow};
 use std::alloc::Global;
+use text_words::append;
 
 #[tactic(auto, unfolding(crate::specs::Told::owned))]
 /// Appends `text`, the number b, ` of process ` and the number of the process.
@@ -50,7 +50,11 @@ fn append_inverse(out: &mut Vec<u8>, inverse: Inverse) -> Result<(), NoMemory>
     ensures { OnOk result (out.new.items ≡ out.old.items ++ told.inverse_said inverse) }
 {
     match inverse {
-        Inverse::Cell(q, k, value) => {
+        Inverse::Cell {
+            process: q,
+            cell: k,
+            value,
+        } => {
             append_owned(out, b"cell ", q, k)?;
             append_numbered(out, b" to ", value)
         }
@@ -58,7 +62,11 @@ fn append_inverse(out: &mut Vec<u8>, inverse: Inverse) -> Result<(), NoMemory>
             append_numbered(out, b"the nice of process ", u32::from(q))?;
             append_numbered(out, b" to ", u32::from(value))
         }
-        Inverse::Window(q, fd, value) => {
+        Inverse::Window {
+            process: q,
+            descriptor: fd,
+            value,
+        } => {
             append_owned(out, b"the window of descriptor ", q, fd)?;
             append_numbered(out, b" to ", u32::from(value))
         }
@@ -66,7 +74,11 @@ fn append_inverse(out: &mut Vec<u8>, inverse: Inverse) -> Result<(), NoMemory>
             append_numbered(out, b"the mark of frame ", u32::from(frame))?;
             append_numbered(out, b" to ", u32::from(value))
         }
-        Inverse::Tune(kind, k, value) => {
+        Inverse::Tune {
+            kind,
+            parameter: k,
+            value,
+        } => {
             append_parameter(out, kind, k)?;
             append_numbered(out, b" to ", value)
         }
@@ -125,15 +137,29 @@ fn append_row(out: &mut Vec<u8>, row: &RawRow) -> Result<(), NoMemory>
             append_numbered(out, b" holds user lock ", u32::from(*u))?;
             append(out, b"\n")
         }
-        RawRow::Call(p, _, Some(wait), _) => {
+        RawRow::Call {
+            process: p,
+            wait: Some(wait),
+            ..
+        } => {
             append_wait(out, *p, wait)?;
             append(out, b"\n")
         }
-        RawRow::Level(p, depth, q, pt, _) => {
+        RawRow::Level {
+            process: p,
+            depth,
+            installer: q,
+            point: pt,
+            ..
+        } => {
             append_run(out, *p, *depth, *q, *pt)?;
             append(out, b"\n")
         }
-        RawRow::Undo(p, depth, inverse) => {
+        RawRow::Undo {
+            process: p,
+            depth,
+            inverse,
+        } => {
             append_undo(out, *p, *depth, *inverse)?;
             append(out, b"\n")
         }

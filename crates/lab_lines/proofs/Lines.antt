@@ -1,5 +1,8 @@
 -- Lines told one after another, and the lines of a text that is cut behind a newline.
-use Rattle.std.proofs.Common.{◌≡◌, ◌≤◌, ◌<◌, ℕ, zero, suc, ◌==◌, true, false, cond, All, List, [], ◌∷◌, ◌++◌, Option, is_some, Result, Ok, Err, OnOk, length, drop, get_or, slice_index, slice_range, flat_map, filter, refl, sym, ap, ◌∙◌, append_assoc, arith}
+use Rattle.std.proofs.Common.{◌≡◌, ◌≤◌, ◌<◌, ℕ, zero, suc, ◌==◌, true, false, cond, All, List, []}
+use Rattle.std.proofs.Common.{◌∷◌, ◌++◌, Option, is_some, Result, Ok, Err, OnOk, length, drop}
+use Rattle.std.proofs.Common.{get_or, slice_index, slice_range, flat_map, filter, refl, sym, ap}
+use Rattle.std.proofs.Common.{◌∙◌, append_assoc, arith}
 use Rattle.std.proofs.Math.Seq.{drop-cons}
 use Rattle.std.proofs.lemmas.Bool.Decides.{nat_tests}
 use Rattle.std.proofs.lemmas.Grind.{flat_map-append}
@@ -9,8 +12,9 @@ use Rattle.std.proofs.lemmas.List.Folds.{drop_split}
 use Rattle.std.proofs.lemmas.List.Splits.{slice_split-cons_yes, slice_split-cons_no}
 use Rattle.std.specs.List.{slice_split, onto_first}
 use Rattle.lab_lines.specs.declared.pieces.Piece.{Piece}
-use Rattle.lab_forms.specs.Forms.{form_of, is_told}
-use Rattle.lab_lines.specs.Told.{Told, FileLine, RowHead, End, Wrote, Tells, HasWords, shown, written_in, is_line, lines_of, lines_in, ends_line}
+use Rattle.lab_words.specs.Forms.{form_of, is_told}
+use Rattle.lab_lines.specs.Told.{Told, FileLine, RowHead, End, Wrote, Tells, HasWords, shown}
+use Rattle.lab_lines.specs.Told.{written_in, is_line, lines_of, lines_in, ends_line}
 
 -- what holds of a success in one form holds in another
 pub on_ok : {T E P Q : Type 0} → (r : Result T E) → (P → Q) → OnOk r P → OnOk r Q

@@ -1,8 +1,10 @@
 -- One pass over wanted and written lines finds what each line of the script is to write and wrote.
-use Rattle.std.proofs.Common.{◌≡◌, ◌≤◌, ◌<◌, ◌+◌, ℕ, zero, suc, ◌==◌, Bool, true, false, cond, List, [], ◌∷◌, ◌++◌, length, map, filter, nat_lt, refl, sym, ap, ◌∙◌, arith}
+use Rattle.std.proofs.Common.{◌≡◌, ◌≤◌, ◌<◌, ◌+◌, ℕ, zero, suc, ◌==◌, Bool, true, false, cond}
+use Rattle.std.proofs.Common.{List, [], ◌∷◌, ◌++◌, length, map, filter, nat_lt, refl, sym, ap, ◌∙◌}
+use Rattle.std.proofs.Common.{arith}
 use Rattle.std.proofs.lemmas.Bool.Decides.{nat_tests}
 use Rattle.std.specs.Cmp.Lexicographic.{pointwise}
-use Rattle.lab_sheet.specs.declared.sheet.Want.{Want}
+use Rattle.lab_reader.specs.declared.sheet.Want.{Want}
 use Rattle.lab_lines.specs.declared.pieces.Piece.{Piece}
 use Rattle.lab_lines.specs.declared.testing.Ahead.{Ahead}
 use Rattle.lab_lines.specs.declared.testing.Compared.{Compared}
@@ -10,7 +12,8 @@ use Rattle.lab_lines.specs.Differences.{is_clean, count_ahead}
 use Rattle.lab_lines.specs.Told.{lines_of}
 use Rattle.lab_lines.specs.Wanted.{is_wanted}
 use Rattle.lab_lines.specs.Written.{Line, line_by, writer, all_lines, written_by}
-use Rattle.lab_lines.specs.AsWanted.{AsWanted, AreInOrder, WantsInOrder, PiecesInOrder, is_refusal, is_as_wanted, wanted_of, is_extra, rest_as_wanted}
+use Rattle.lab_lines.specs.AsWanted.{AsWanted, AreInOrder, WantsInOrder, PiecesInOrder, is_refusal}
+use Rattle.lab_lines.specs.AsWanted.{is_as_wanted, wanted_of, is_extra, rest_as_wanted}
 
 -- the owners of lines
 abbrev owners : List Line → List ℕ
@@ -104,18 +107,10 @@ passes : (owner : ℕ) (w : Want) (ws : List Want) (l : Line) (ls : List Line) �
     is_extra owner l ≡ false → rest_as_wanted owner (w ∷ ws) (l ∷ ls) ≡ rest_as_wanted owner (w ∷ ws) ls
 passes owner w ws l ls lt e = grind (arith, nat_tests)
 
-extra : (owner : ℕ) (w : Want) (ws : List Want) (l : Line) (ls : List Line) → l.owner < w.owner →
-    is_extra owner l ≡ true → rest_as_wanted owner (w ∷ ws) (l ∷ ls) ≡ false
-extra owner w ws l ls lt e = grind (arith, nat_tests)
-
 -- a pair
 comes : (owner : ℕ) (w : Want) (ws : List Want) (l : Line) (ls : List Line) → l.owner ≡ w.owner →
     is_wanted w.text l.text ≡ true → rest_as_wanted owner (w ∷ ws) (l ∷ ls) ≡ rest_as_wanted w.owner ws ls
 comes owner w ws l ls lt e = grind (arith, nat_tests)
-
-differs : (owner : ℕ) (w : Want) (ws : List Want) (l : Line) (ls : List Line) → l.owner ≡ w.owner →
-    is_wanted w.text l.text ≡ false → rest_as_wanted owner (w ∷ ws) (l ∷ ls) ≡ false
-differs owner w ws l ls lt e = grind (arith, nat_tests)
 
 -- ---- what belongs to a line of the script
 

@@ -3,7 +3,7 @@ use Rattle.std.specs.Prelude.{◌≡◌, ◌≤◌, ℕ, ◌==◌, ⊤, Bool, tr
 use Rattle.std.specs.Prelude.{◌∷◌, map, filter, length, codes}
 use Rattle.std.specs.Cmp.Lexicographic.{pointwise}
 use Rattle.std.specs.List.{list_any, starts_with}
-use Rattle.lab_sheet.specs.declared.sheet.Want.{Want}
+use Rattle.lab_reader.specs.declared.sheet.Want.{Want}
 use Rattle.lab_lines.specs.declared.pieces.Piece.{Piece}
 use Rattle.lab_lines.specs.Wanted.{is_wanted}
 use Rattle.lab_lines.specs.Written.{Line, writer, written_by}

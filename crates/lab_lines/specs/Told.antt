@@ -3,7 +3,7 @@ use Rattle.std.specs.Prelude.{◌≡◌, ℕ, ◌-◌, ◌==◌, ◌&&◌, Bool,
 use Rattle.std.specs.Prelude.{length, slice_index, filter, flat_map, codes, decimal, Option, None}
 use Rattle.std.specs.Prelude.{Some, is_some, All, ⊤}
 use Rattle.std.specs.List.{slice_split, list_any}
-use Rattle.lab_forms.specs.Forms.{form_of, is_told}
+use Rattle.lab_words.specs.Forms.{form_of, is_told}
 use Rattle.lab_lines.specs.declared.pieces.Piece.{Piece}
 
 -- a line that isn't empty

@@ -1,7 +1,7 @@
 -- Which lines a wanted line stands for.
 use Rattle.std.specs.Prelude.{ℕ, ◌==◌, Bool, true, false, ◌||◌, List, [], ◌∷◌, codes}
 use Rattle.std.specs.List.{slice_split}
-use Rattle.kernel_model.specs.World.{same_bytes}
+use Rattle.kernel_data.specs.World.{same_bytes}
 
 -- a wanted word stands for itself, and `*` for any
 abbrev pub is_word_of : List ℕ → List ℕ → Bool

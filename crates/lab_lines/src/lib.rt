@@ -12,4 +12,4 @@ pub use crate::pieces::{Piece, pieces_of};
 pub use crate::sink::LineSink;
 pub use crate::telling::told;
 pub use crate::testing::{Compared, compare, is_wanted};
-pub use kernel_model::NoMemory;
+pub use kernel_data::NoMemory;

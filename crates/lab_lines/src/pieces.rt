@@ -5,7 +5,7 @@ ghost use Rattle.lab_lines.specs.Told as spec;
 ghost use Rattle.lab_lines.specs.Told.{lines_in, lines_of};
 
 use crate::sink::LineSink;
-use kernel_model::NoMemory;
+use kernel_data::NoMemory;
 use std::alloc::Global;
 use text_words::{Parts, number_of};
 

@@ -6,12 +6,12 @@ ghost use Rattle.lab_lines.specs.Told.{Adds, End, FileLine, RowHead, Tells, Tell
 
 use crate::pieces::{Piece, pieces_of};
 use crate::sink::LineSink;
-use crate::text::{add, add_number, add_number_right};
-use kernel_model::NoMemory;
-use lab_text::{Graft, Item, Lab};
-use lab_words::tell as words_of;
+use crate::text::{add_number, add_number_right};
+use kernel_data::NoMemory;
+use lab_lowering::{Graft, Item, Lab};
+use lab_words::sentence_of;
 use std::alloc::Global;
-use text_words::Parts;
+use text_words::{Parts, append};
 
 /// A text that may stand in a line.
 fn one_line(text: &[u8]) -> &[u8]
@@ -24,27 +24,27 @@ fn one_line(text: &[u8]) -> &[u8]
 fn add_alone(out: &mut Vec<u8>, line: &[u8]) -> Result<(), NoMemory>
     ensures { OnOk result (Adds out.old.items out.new.items (Wrote line.now None)) }
 {
-    add(out, b"        ")?;
-    add(out, line)?;
-    add(out, b"\n")
+    append(out, b"        ")?;
+    append(out, line)?;
+    append(out, b"\n")
 }
 
 /// Appends a written line with words beside it.
 fn add_with_words(out: &mut Vec<u8>, line: &[u8], words: &[u8]) -> Result<(), NoMemory>
     ensures { OnOk result (Adds out.old.items out.new.items (Wrote line.now (Some words.now))) }
 {
-    add(out, b"        ")?;
-    add(out, line)?;
-    add(out, b"    -- ")?;
-    add(out, one_line(words))?;
-    add(out, b"\n")
+    append(out, b"        ")?;
+    append(out, line)?;
+    append(out, b"    -- ")?;
+    append(out, one_line(words))?;
+    append(out, b"\n")
 }
 
 /// Appends a written line, with words beside it where there are some.
 fn add_written(alloc: Global, out: &mut Vec<u8>, line: &[u8]) -> Result<(), NoMemory>
     ensures { OnOk result (Tells out.old.items out.new.items (line.now ∷ []) []) }
 {
-    match words_of(alloc, line)? {
+    match sentence_of(alloc, line)? {
         None => add_alone(out, line),
         Some(words) => add_with_words(out, line, words.as_slice()),
     }
@@ -106,10 +106,10 @@ fn add_head_of<'a>(out: &mut Vec<u8>, line: &'a [u8], above: &'a [u8]) -> Result
 fn add_row_head(out: &mut Vec<u8>, kind: &[u8], about: &[u8]) -> Result<(), NoMemory>
     ensures { OnOk result (Adds out.old.items out.new.items (RowHead kind.now about.now)) }
 {
-    add(out, b"        -- ")?;
-    add(out, one_line(kind))?;
-    add(out, one_line(about))?;
-    add(out, b"\n")
+    append(out, b"        -- ")?;
+    append(out, one_line(kind))?;
+    append(out, one_line(about))?;
+    append(out, b"\n")
 }
 
 /// The kind of a row of `raw`.
@@ -192,7 +192,7 @@ fn add_rest(
 fn add_end(out: &mut Vec<u8>) -> Result<(), NoMemory>
     ensures { OnOk result (Adds out.old.items out.new.items End) }
 {
-    add(out, b" end\n")
+    append(out, b" end\n")
 }
 
 /// The line of the script that seals a graft of this number, in words of the file.
@@ -204,14 +204,14 @@ fn sealed_text(
     raw: bool,
 ) -> Result<Vec<u8>, NoMemory> {
     let mut text = Vec::new(alloc);
-    add(&mut text, b"image ")?;
+    append(&mut text, b"image ")?;
     add_number(&mut text, slot as usize)?;
-    add(&mut text, b" ")?;
+    append(&mut text, b" ")?;
     if let Some(graft) = grafts.get(graft) {
-        add(&mut text, graft.name())?;
+        append(&mut text, graft.name())?;
     }
     if raw {
-        add(&mut text, b" raw")?;
+        append(&mut text, b" raw")?;
     }
     Ok(text)
 }
@@ -221,9 +221,9 @@ fn add_file_line(out: &mut Vec<u8>, number: usize, text: &[u8]) -> Result<(), No
     ensures { OnOk result (Adds out.old.items out.new.items (FileLine number text.now)) }
 {
     add_number_right(out, number)?;
-    add(out, b"  ")?;
-    add(out, one_line(text))?;
-    add(out, b"\n")
+    append(out, b"  ")?;
+    append(out, one_line(text))?;
+    append(out, b"\n")
 }
 
 /// Whether a line of the script says nothing.

@@ -7,13 +7,13 @@ ghost use Rattle.lab_lines.specs.Differences.{TellsOne, TellsIf, Steps, count_ah
 ghost use Rattle.lab_lines.specs.Wanted as spec;
 
 use crate::pieces::Piece;
-use crate::text::{add, add_number};
+use crate::text::add_number;
 use crate::written::{Wrote, all_lines};
-use kernel_model::NoMemory;
-use lab_text::{Sheet, Want};
-use lab_words::tell as words_of;
+use kernel_data::NoMemory;
+use lab_lowering::{Sheet, Want};
+use lab_words::sentence_of;
 use std::alloc::Global;
-use text_words::Parts;
+use text_words::{Parts, append};
 
 /// What differs, a line each, and how much does.
 #[derive(Drop)]
@@ -54,10 +54,10 @@ pub fn is_wanted(want: &[u8], line: &[u8]) -> bool
 fn add_quoted(alloc: Global, out: &mut Vec<u8>, line: &[u8]) -> Result<(), NoMemory>
     ensures { OnOk result (length out.old.items ≤ length out.new.items) }
 {
-    add(out, b"'")?;
-    add(out, line)?;
-    add(out, b"'")?;
-    if let Some(words) = words_of(alloc, line)? {
+    append(out, b"'")?;
+    append(out, line)?;
+    append(out, b"'")?;
+    if let Some(words) = sentence_of(alloc, line)? {
         return add_words(out, words.as_slice());
     }
     Ok(())
@@ -67,9 +67,9 @@ fn add_quoted(alloc: Global, out: &mut Vec<u8>, line: &[u8]) -> Result<(), NoMem
 fn add_words(out: &mut Vec<u8>, words: &[u8]) -> Result<(), NoMemory>
     ensures { OnOk result (length out.old.items ≤ length out.new.items) }
 {
-    add(out, b" (")?;
-    add(out, words)?;
-    add(out, b")")
+    append(out, b" (")?;
+    append(out, words)?;
+    append(out, b")")
 }
 
 /// Appends a line in quotes, or that there is none.
@@ -78,20 +78,20 @@ fn add_got(alloc: Global, out: &mut Vec<u8>, got: Option<&[u8]>) -> Result<(), N
 {
     match got {
         Some(line) => add_quoted(alloc, out, line),
-        None => add(out, b"nothing"),
+        None => append(out, b"nothing"),
     }
 }
 
 impl Compared {
     /// Begins to tell of a difference in this line of this file.
-    fn begin(&mut self, file: &[u8], line: usize) -> Result<(), NoMemory>
+    fn begin_difference(&mut self, file: &[u8], line: usize) -> Result<(), NoMemory>
         ensures { OnOk result (TellsOne self.old self.new) }
     {
         self.differences = self.differences.saturating_add(1);
-        add(&mut self.text, file)?;
-        add(&mut self.text, b": line ")?;
+        append(&mut self.text, file)?;
+        append(&mut self.text, b": line ")?;
         add_number(&mut self.text, line)?;
-        add(&mut self.text, b": ")
+        append(&mut self.text, b": ")
     }
 
     /// A line is wanted and another one, or none, was written.
@@ -104,22 +104,22 @@ impl Compared {
     ) -> Result<(), NoMemory>
         ensures { OnOk result (TellsOne self.old self.new) }
     {
-        self.begin(file, want.line)?;
-        add(&mut self.text, b"wanted '")?;
-        add(&mut self.text, want.text.bytes())?;
-        add(&mut self.text, b"', got ")?;
+        self.begin_difference(file, want.line)?;
+        append(&mut self.text, b"wanted '")?;
+        append(&mut self.text, want.text.bytes())?;
+        append(&mut self.text, b"', got ")?;
         add_got(alloc, &mut self.text, got)?;
-        add(&mut self.text, b"\n")
+        append(&mut self.text, b"\n")
     }
 
     /// A line was written that isn't wanted.
     fn add_extra(&mut self, alloc: Global, file: &[u8], wrote: &Wrote) -> Result<(), NoMemory>
         ensures { OnOk result (TellsOne self.old self.new) }
     {
-        self.begin(file, wrote.owner)?;
-        add(&mut self.text, b"got ")?;
+        self.begin_difference(file, wrote.owner)?;
+        append(&mut self.text, b"got ")?;
         add_quoted(alloc, &mut self.text, wrote.line)?;
-        add(&mut self.text, b", which isn't wanted\n")
+        append(&mut self.text, b", which isn't wanted\n")
     }
 
     /// A written line for which nothing is wanted: it tells where it belongs to a line with wanted

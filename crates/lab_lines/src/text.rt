@@ -3,24 +3,15 @@
 ghost use Rattle.std.specs.Prelude.{◌≡◌, ◌++◌, decimal, OnOk};
 ghost use Rattle.lab_lines.specs.Told as spec;
 
-use kernel_model::NoMemory;
-
-/// Appends bytes.
-pub(crate) fn add(out: &mut Vec<u8>, bytes: &[u8]) -> Result<(), NoMemory>
-    ensures { OnOk result (out.new.items ≡ out.old.items ++ bytes.now) }
-{
-    match out.extend_from_slice(bytes) {
-        Ok(()) => Ok(()),
-        Err(_) => Err(NoMemory),
-    }
-}
+use kernel_data::NoMemory;
+use text_words::append;
 
 /// Appends a number.
 pub(crate) fn add_number(out: &mut Vec<u8>, n: usize) -> Result<(), NoMemory>
     ensures { OnOk result (out.new.items ≡ out.old.items ++ decimal n) }
 {
     let mut digits = itoa::Buffer::new();
-    add(out, digits.format(n).as_bytes())
+    append(out, digits.format(n).as_bytes())
 }
 
 /// Spaces before a number, up to four bytes in all.
@@ -42,6 +33,6 @@ fn spaces_before(n: usize) -> &'static [u8]
 pub(crate) fn add_number_right(out: &mut Vec<u8>, n: usize) -> Result<(), NoMemory>
     ensures { OnOk result (out.new.items ≡ out.old.items ++ spec.spaces_before n ++ decimal n) }
 {
-    add(out, spaces_before(n))?;
+    append(out, spaces_before(n))?;
     add_number(out, n)
 }

@@ -5,7 +5,7 @@ ghost use Rattle.lab_lines.specs.Told.{lines_of};
 ghost use Rattle.lab_lines.specs.Written as spec;
 
 use crate::pieces::Piece;
-use kernel_model::NoMemory;
+use kernel_data::NoMemory;
 use std::alloc::Global;
 use std::marker::Model;
 use text_words::Parts;

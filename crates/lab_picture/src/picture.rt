@@ -1,15 +1,16 @@
 //! `draw`: the picture of a run.
 
 ghost use Rattle.std.specs.Prelude.{◌≤◌, IfOk, IfErr};
-ghost use Rattle.lab_events.specs.Events.{chosen_count, event_count};
-ghost use Rattle.lab_events.specs.Refusals.{IsRefused};
+ghost use Rattle.lab_story.specs.Events.{chosen_count, event_count};
+ghost use Rattle.lab_story.specs.Refusals.{IsRefused};
 
-use kernel_model::NoMemory;
-use lab_events::{Chosen, MOST_EVENTS, PictureFault, Row, admitted};
-use lab_story::{Story, read};
-use lab_strips::{LEFT, PER_STRIP, Strip, TOP, count_records, lanes_of, levels_of, paint_strip};
-use lab_svg::{At, append, append_with, cross, line, rectangle, text};
+use crate::layout::{LEFT, PER_STRIP, Strip, TOP, count_records, lanes_of, levels_of};
+use crate::paint::paint_strip;
+use crate::shapes::{At, cross, line, rectangle, text};
+use kernel_data::NoMemory;
+use lab_story::{Chosen, MOST_EVENTS, PictureFault, Row, Story, admitted, read};
 use std::alloc::Global;
+use text_words::{append, append_with};
 
 /// How the classes look. The colours are those of Okabe and Ito, which colour-blind eyes tell
 /// apart; what is dropped, refused or waits has a mark or a hatching besides.
@@ -53,7 +54,7 @@ text{font:11px 'DejaVu Sans',Verdana,sans-serif;fill:#222}
 ";
 
 /// The beginning of a picture of this height.
-fn begin(out: &mut Vec<u8>, height: u32) -> Result<(), NoMemory> {
+fn begin_picture(out: &mut Vec<u8>, height: u32) -> Result<(), NoMemory> {
     append(
         out,
         b"<svg xmlns=\"http://www.w3.org/2000/svg\" width=\"1000\" height=\"",
@@ -132,7 +133,7 @@ fn draw_strips(
 fn draw_story(alloc: Global, story: &Story, chosen: Chosen) -> Result<Vec<u8>, NoMemory> {
     let mut out = Vec::new(alloc);
     let height = draw_strips(alloc, &mut out, story, chosen, false)?;
-    begin(&mut out, height)?;
+    begin_picture(&mut out, height)?;
     explain(&mut out)?;
     if story.columns.is_empty() {
         text(&mut out, b"note", At { x: LEFT, y: TOP }, b"no event")?;
@@ -172,8 +173,6 @@ pub fn draw<'a>(
     ensures refused { IfErr result (IsRefused
         (chosen_count chosen.first chosen.last (event_count rows.now))) }
 {
-    match admitted(rows, chosen) {
-        Err(fault) => Err(fault),
-        Ok(chosen) => Ok(draw_chosen(alloc, rows, slow, chosen)?),
-    }
+    let chosen = admitted(rows, chosen)?;
+    Ok(draw_chosen(alloc, rows, slow, chosen)?)
 }

@@ -2,15 +2,15 @@
 use Rattle.std.specs.Prelude.{ℕ, suc, ◌-◌, ◌==◌, Bool, true, false, cond, not, List, [], ◌∷◌, ◌++◌}
 use Rattle.std.specs.Prelude.{length, take, slice_index, codes, Result, Ok, Err}
 use Rattle.std.specs.List.{list_any}
-use Rattle.kernel_model.specs.World.{same_bytes}
-use Rattle.kernel_model.specs.Assembler.{is_empty, is_passed_over, lines_of}
-use Rattle.lab_tokens.specs.declared.faults.LabKind.TheVariants as kind
-use Rattle.lab_sheet.specs.declared.graft.Notation.TheVariants.{Assembler}
-use Rattle.lab_tokens.specs.Faults.{Refusal, refused}
-use Rattle.lab_tokens.specs.Words.{code_of, left_of, parts_of, wanted_of, with_spaces}
+use Rattle.script_model.specs.World.{same_bytes}
+use Rattle.script_model.specs.Assembler.{is_empty, is_passed_over, lines_of}
+use Rattle.lab_reader.specs.declared.faults.LabKind.TheVariants as kind
+use Rattle.lab_reader.specs.declared.graft.Notation.TheVariants.{Assembler}
+use Rattle.lab_reader.specs.Faults.{Refusal, refused}
+use Rattle.lab_reader.specs.Words.{code_of, left_of, parts_of, wanted_of, with_spaces}
 use Rattle.lab_reader.specs.Settings.{Settings, first_settings, with_key, with_disk, with_fails}
-use Rattle.lab_sheet.specs.Grafts.{Graft, begun_of, new_graft, with_code}
-use Rattle.lab_sheet.specs.Sheet.{Sheet, first_sheet, with_blank, with_image, with_plain, with_want}
+use Rattle.lab_reader.specs.Grafts.{Graft, begun_of, new_graft, with_code}
+use Rattle.lab_reader.specs.Sheet.{Sheet, first_sheet, with_blank, with_image, with_plain, with_want}
 
 -- What the lines so far said. Inside a graft the draft is that graft.
 pub record Lab : Type 0 where

@@ -1,2 +1,6 @@
-pub mod Settings
+pub mod Faults
+pub mod Grafts
 pub mod Lab
+pub mod Settings
+pub mod Sheet
+pub mod Words

@@ -1,12 +1,12 @@
 -- The settings of a lab file: its keys and its disk.
 use Rattle.std.specs.Prelude.{ℕ, Bool, true, false, cond, ◌||◌, is_some, List, [], ◌∷◌, replicate}
 use Rattle.std.specs.Prelude.{codes, Option, None, Some, Result, Ok, Err}
-use Rattle.filters.specs.Keys.{keys_of}
-use Rattle.kernel_model.specs.declared.Keys.{Keys}
-use Rattle.kernel_model.specs.World.{same_bytes}
-use Rattle.lab_tokens.specs.declared.faults.LabKind.TheVariants as kind
-use Rattle.lab_tokens.specs.Faults.{Refusal, refused}
-use Rattle.lab_tokens.specs.Words.{numbers_of}
+use Rattle.graft_loader.specs.Keys.{keys_of}
+use Rattle.script_model.specs.declared.Keys.{Keys}
+use Rattle.script_model.specs.World.{same_bytes}
+use Rattle.lab_reader.specs.declared.faults.LabKind.TheVariants as kind
+use Rattle.lab_reader.specs.Faults.{Refusal, refused}
+use Rattle.lab_reader.specs.Words.{numbers_of}
 
 -- The word that writes the keys, and whether a line said it; the file that is the disk, if one is;
 -- which calls of the disk fail, and whether a line said it.

@@ -1,7 +1,8 @@
 //! What a lab file said so far.
 
+use crate::graft::Graft;
 use crate::settings::Settings;
-use lab_sheet::{Graft, Sheet};
+use crate::sheet::Sheet;
 use std::marker::Model;
 
 /// What a lab file says: its settings, its grafts, and its lines for the script. Inside a graft the

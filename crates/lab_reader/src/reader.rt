@@ -1,24 +1,26 @@
 //! A lab file, read line by line.
 
 ghost use Rattle.std.specs.Prelude.{◌≡◌, ◌≤◌, ◌∷◌, ◌++◌, [], length, false, Ok, IfOk, OnOk};
-ghost use Rattle.lab_tokens.specs.Faults.{StepsAs, ReadsAs};
-ghost use Rattle.kernel_model.specs.Assembler.{is_passed_over, lines_of};
-ghost use Rattle.lab_tokens.specs.Words.{parts_of};
-ghost use Rattle.lab_sheet.specs.Grafts as grafts;
+ghost use Rattle.lab_reader.specs.Faults.{StepsAs, ReadsAs};
+ghost use Rattle.script_model.specs.Assembler.{is_passed_over, lines_of};
+ghost use Rattle.lab_reader.specs.Words.{parts_of};
+ghost use Rattle.lab_reader.specs.Grafts as grafts;
 ghost use Rattle.lab_reader.specs.Settings as settings;
-ghost use Rattle.lab_sheet.specs.Sheet as sheet;
+ghost use Rattle.lab_reader.specs.Sheet as sheet;
 ghost use Rattle.lab_reader.specs.Lab as spec;
 
+use crate::faults::{LabFault, LabKind};
+use crate::graft::Graft;
+use crate::grafts::begun_of;
 use crate::lab::Lab;
 use crate::settings::Settings;
-use kernel_model::NoMemory;
-use lab_sheet::{Graft, Sheet, begun_of};
-use lab_tokens::{
-    LabFault, LabKind, Text, code_of, is_code, is_left, left_of, put, text_of, wanted_of,
-};
+use crate::sheet::Sheet;
+use crate::text::{Text, text_of};
+use crate::words::{code_of, is_code, is_left, left_of, wanted_of};
+use script_model::NoMemory;
 use std::alloc::Global;
 use std::mem;
-use text_words::Parts;
+use text_words::{Parts, put};
 
 impl Lab {
     /// Before the first line.
@@ -64,18 +66,14 @@ impl Lab {
     }
 
     /// A line that begins a graft.
-    fn begin(&mut self, alloc: Global, n: usize, words: Parts) -> Result<(), LabFault>
+    fn begin_graft(&mut self, alloc: Global, n: usize, words: Parts) -> Result<(), LabFault>
         ensures { StepsAs result self.new (spec.begins_by self.old
             (grafts.begun_of n self.old.grafts words.entry)) }
     {
-        match begun_of(alloc, n, self.grafts.as_slice(), words) {
-            Err(fault) => Err(fault),
-            Ok(graft) => {
-                self.inside = true;
-                self.draft = graft;
-                Ok(self.blank(alloc)?)
-            }
-        }
+        let graft = begun_of(alloc, n, self.grafts.as_slice(), words)?;
+        self.inside = true;
+        self.draft = graft;
+        Ok(self.blank(alloc)?)
     }
 
     /// A line of keys.
@@ -84,10 +82,8 @@ impl Lab {
             (settings.with_key n (spec.has_images self.old) self.old.settings words.entry)) }
     {
         let late = self.sheet.has_images();
-        match self.settings.set_key(alloc, n, late, words) {
-            Err(fault) => Err(fault),
-            Ok(()) => Ok(self.blank(alloc)?),
-        }
+        self.settings.set_key(alloc, n, late, words)?;
+        Ok(self.blank(alloc)?)
     }
 
     /// A line that names the file of the disk.
@@ -95,10 +91,8 @@ impl Lab {
         ensures { StepsAs result self.new (spec.set_by self.old
             (settings.with_disk n self.old.settings words.entry)) }
     {
-        match self.settings.set_disk(alloc, n, words) {
-            Err(fault) => Err(fault),
-            Ok(()) => Ok(self.blank(alloc)?),
-        }
+        self.settings.set_disk(alloc, n, words)?;
+        Ok(self.blank(alloc)?)
     }
 
     /// A line that says which calls of the disk fail.
@@ -106,25 +100,8 @@ impl Lab {
         ensures { StepsAs result self.new (spec.set_by self.old
             (settings.with_fails n self.old.settings words.entry)) }
     {
-        match self.settings.set_fails(alloc, n, words) {
-            Err(fault) => Err(fault),
-            Ok(()) => Ok(self.blank(alloc)?),
-        }
-    }
-
-    /// A line that loads an image.
-    fn add_image(
-        &mut self,
-        alloc: Global,
-        n: usize,
-        text: &[u8],
-        words: Parts,
-    ) -> Result<(), LabFault>
-        ensures { StepsAs result self.new (spec.written_by self.old
-            (sheet.with_image n self.old.grafts self.old.sheet text.now words.entry)) }
-    {
-        self.sheet
-            .add_image(alloc, n, self.grafts.as_slice(), text, words)
+        self.settings.set_fails(alloc, n, words)?;
+        Ok(self.blank(alloc)?)
     }
 
     /// What a line outside of grafts says, by its first word and those behind it.
@@ -140,9 +117,10 @@ impl Lab {
             words.entry) }
     {
         if first == b"image".as_slice() {
-            self.add_image(alloc, n, text, words)
+            self.sheet
+                .add_image(alloc, n, self.grafts.as_slice(), text, words)
         } else if first == b"graft".as_slice() {
-            self.begin(alloc, n, words)
+            self.begin_graft(alloc, n, words)
         } else if first == b"end".as_slice() {
             Err(LabFault::At(n, LabKind::StrayEnd))
         } else if first == b"key".as_slice() {
@@ -152,16 +130,8 @@ impl Lab {
         } else if first == b"fail".as_slice() {
             self.set_fails(alloc, n, words)
         } else {
-            Ok(self.add_plain(alloc, n, text)?)
+            Ok(self.sheet.add_plain(alloc, n, text)?)
         }
-    }
-
-    /// A line of the script as it stands.
-    fn add_plain(&mut self, alloc: Global, n: usize, text: &[u8]) -> Result<(), NoMemory>
-        ensures { OnOk result (self.new
-            ≡ record self.old { sheet = sheet.with_plain n self.old.sheet text.now }) }
-    {
-        self.sheet.add_plain(alloc, n, text)
     }
 
     /// What the part of a line for the script says.
@@ -184,10 +154,8 @@ impl Lab {
         }
         let left = left_of(alloc, code)?;
         let wanted = wanted_of(alloc, code)?;
-        match self.add_left(alloc, n, left.as_slice()) {
-            Err(fault) => Err(fault),
-            Ok(()) => self.sheet.add_want(n, left.is_empty(), wanted),
-        }
+        self.add_left(alloc, n, left.as_slice())?;
+        self.sheet.add_want(n, left.is_empty(), wanted)
     }
 
     /// The graft that is written ends.
@@ -274,10 +242,8 @@ fn read_lines(alloc: Global, text: &[u8]) -> Result<Lab, LabFault>
     let mut lines = Parts::new(text, b'\n');
     let mut number = 1;
     while let Some(line) = lines.next() {
-        match lab.add_line(alloc, number, line) {
-            Ok(()) => number += 1,
-            Err(fault) => return Err(fault),
-        }
+        lab.add_line(alloc, number, line)?;
+        number += 1;
     }
     Ok(lab)
 }
@@ -287,8 +253,5 @@ pub fn read_lab(alloc: Global, text: &[u8]) -> Result<Lab, LabFault>
     requires { length text.now ≤ 16_777_216 }
     ensures { ReadsAs result (spec.lab_of_spaced text.now) }
 {
-    match read_lines(alloc, without_newline(text)) {
-        Err(fault) => Err(fault),
-        Ok(lab) => lab.finish(),
-    }
+    read_lines(alloc, without_newline(text))?.finish()
 }

@@ -2,13 +2,15 @@
 
 ghost use Rattle.std.specs.Prelude.{◌≡◌, IfOk};
 ghost use Rattle.std.specs.Option.{option_copied};
-ghost use Rattle.lab_tokens.specs.Words.{one_word_of};
-ghost use Rattle.lab_tokens.specs.Faults.{StepsAs};
+ghost use Rattle.lab_reader.specs.Words.{one_word_of};
+ghost use Rattle.lab_reader.specs.Faults.{StepsAs};
 ghost use Rattle.lab_reader.specs.Settings as spec;
 
-use filters::read_keys;
-use kernel_model::NoMemory;
-use lab_tokens::{LabFault, LabKind, Text, numbers_of, text_of};
+use crate::faults::{LabFault, LabKind};
+use crate::text::{Text, text_of};
+use crate::words::numbers_of;
+use graft_loader::read_keys;
+use script_model::NoMemory;
 use std::alloc::Global;
 use std::marker::Model;
 use text_words::Parts;

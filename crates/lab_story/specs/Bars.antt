@@ -3,7 +3,7 @@ use Rattle.std.specs.Prelude.{ℕ, ◌==◌, ◌&&◌, Bool, true, false, not, c
 use Rattle.std.specs.Prelude.{◌∷◌, length, Option, option_map, find, slice_index_or}
 use Rattle.std.specs.List.{list_any}
 use Rattle.std.specs.Option.{option_map_or}
-use Rattle.kernel_model.specs.World.{same_bytes}
+use Rattle.script_model.specs.World.{same_bytes}
 use Rattle.lab_story.specs.declared.story.Bar.{Bar}
 use Rattle.lab_story.specs.declared.story.End.{End}
 use Rattle.lab_story.specs.declared.story.End.TheVariants as ends

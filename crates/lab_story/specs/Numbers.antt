@@ -3,7 +3,7 @@ use Rattle.std.specs.Prelude.{ℕ, zero, suc, ◌+◌, length, take, drop, posit
 use Rattle.std.specs.Prelude.{slice_index_or, unwrap_or, ◌==◌}
 use Rattle.std.specs.List.{slice_split}
 use Rattle.std.specs.Option.{option_map_or}
-use Rattle.kernel_model.specs.Bytes.{number_of}
+use Rattle.script_model.specs.Bytes.{number_of}
 
 -- the k-th word of a line, from 0; nothing past their end
 abbrev pub word_at : List ℕ → ℕ → List ℕ

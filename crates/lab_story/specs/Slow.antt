@@ -2,9 +2,9 @@
 use Rattle.std.specs.Prelude.{ℕ, zero, suc, ◌==◌, cond, nat_le, List, [], ◌∷◌, ◌++◌, Option, None}
 use Rattle.std.specs.Prelude.{Some, codes, slice_index_or}
 use Rattle.std.specs.List.{slice_split}
-use Rattle.kernel_model.specs.Bytes.{number_of}
-use Rattle.kernel_model.specs.World.{same_bytes}
-use Rattle.lab_events.specs.Events.{is_event}
+use Rattle.script_model.specs.Bytes.{number_of}
+use Rattle.script_model.specs.World.{same_bytes}
+use Rattle.lab_story.specs.Events.{is_event}
 
 -- the k-th word of a line, from 0; nothing past their end
 abbrev pub word_at : List ℕ → ℕ → List ℕ

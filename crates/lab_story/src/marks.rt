@@ -7,11 +7,11 @@ ghost use Rattle.lab_story.specs.Records as undo;
 
 use crate::story::{
     Arrow, Bar, Column, DroppedGraft, End, Kind, NO_TEXT, PutBack, Record, Story, end_bars, keep,
-    put, text_of_number,
+    text_of_number,
 };
-use kernel_model::NoMemory;
-use lab_words::{CallCode, Code, Form, form_of, text_of, word_at};
-use text_words::number_of;
+use lab_words::{CallCode, Code, Form, form_of, text_of};
+use script_model::NoMemory;
+use text_words::{number_of, put, word_at};
 
 /// The most levels of a call.
 const LEVELS: u32 = 4;

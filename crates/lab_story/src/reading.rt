@@ -1,12 +1,11 @@
 //! Reading a run: its script lines and what they wrote.
 
+use crate::event::{Row, is_event};
 use crate::marks::{number_at, read_line};
-use crate::story::{Bar, Column, End, Kind, NO_TEXT, Story, go_on, keep, put};
-use kernel_model::NoMemory;
-use lab_events::{Row, is_event};
-use lab_words::word_at;
+use crate::story::{Bar, Column, End, Kind, NO_TEXT, Story, go_on, keep};
+use script_model::NoMemory;
 use std::alloc::Global;
-use text_words::{Parts, number_of};
+use text_words::{Parts, number_of, put, word_at};
 
 /// Whether a line of a script is an event that is no call.
 fn is_no_call(line: &[u8]) -> bool {
@@ -14,7 +13,7 @@ fn is_no_call(line: &[u8]) -> bool {
 }
 
 /// A line of a script becomes an event, and the bar of a call where it is one.
-fn begin<'a>(story: &mut Story<'a>, event: u32, line: &'a [u8]) -> Result<(), NoMemory> {
+fn begin_event<'a>(story: &mut Story<'a>, event: u32, line: &'a [u8]) -> Result<(), NoMemory> {
     put(
         &mut story.columns,
         Column {
@@ -58,7 +57,7 @@ pub fn read<'a>(alloc: Global, rows: &[Row<'a>]) -> Result<Story<'a>, NoMemory> 
     for row in rows {
         if is_event(row.line) {
             event = event.saturating_add(1);
-            begin(&mut story, event, row.line)?;
+            begin_event(&mut story, event, row.line)?;
         }
         read_written(&mut story, event, row.written)?;
     }

@@ -4,11 +4,10 @@ ghost use Rattle.std.specs.Prelude.{◌≡◌, ◌==◌, ◌++◌, flat_map, IfO
 ghost use Rattle.std.specs.List.{slice_split};
 ghost use Rattle.lab_story.specs.Slow as spec;
 
-use kernel_model::NoMemory;
-use lab_events::is_event;
-use lab_words::{append, word_at};
+use crate::event::is_event;
+use script_model::NoMemory;
 use std::alloc::Global;
-use text_words::{Parts, number_of};
+use text_words::{Parts, append, number_of, word_at};
 
 /// The most single steps that a line becomes.
 const MOST_STEPS: u32 = 512;

@@ -4,8 +4,9 @@ ghost use Rattle.std.specs.Prelude.{◌≡◌, [], ◌∷◌, ◌++◌, length, 
 ghost use Rattle.lab_story.specs.Bars as spec;
 ghost use Rattle.lab_story.specs.Story.{IsEmpty};
 
-use kernel_model::NoMemory;
+use script_model::NoMemory;
 use std::alloc::Global;
+use text_words::put;
 
 /// Above all levels.
 const WAIT_LEVEL: u32 = 9;
@@ -174,16 +175,6 @@ pub fn text_of_number<'a>(texts: &[&'a [u8]], number: usize) -> &'a [u8]
 
 /// The number of no text.
 pub const NO_TEXT: usize = usize::MAX;
-
-/// Puts an item behind others.
-pub fn put<T: Drop>(items: &mut Vec<T>, item: T) -> Result<(), NoMemory>
-    ensures { OnOk result (items.new.items ≡ items.old.items ++ item ∷ []) }
-{
-    match items.push(item) {
-        Ok(()) => Ok(()),
-        Err(_) => Err(NoMemory),
-    }
-}
 
 /// A bar that ends here, where it is an open one of a call that stands at a level or above.
 fn ended(bar: Bar, call: u32, level: u32, event: u32, end: End) -> Bar

@@ -2,9 +2,11 @@
 #![tactic(auto)]
 
 mod looks;
+mod running;
 mod seen;
 mod slow;
 mod steps;
 mod watch;
 
-pub use watch::tell;
+pub use running::{Ran, run_script};
+pub use watch::tell_watched;

@@ -5,9 +5,9 @@ use gm_isa::Instr;
 use graft_loader::{Images, Loaded};
 use kernel_model::NoMemory;
 use lab_levels::{LEVELS, LevelRow, PROCESSES, View, append_instruction, append_level, segment_in};
-use lab_weave::{append, append_with};
 use ram_space::Ram;
 use std::alloc::Global;
+use text_words::{append, append_with};
 
 impl<'a> Watch<'a> {
     /// The slot of a level's image, and that image.
@@ -32,7 +32,7 @@ impl<'a> Watch<'a> {
         let taken = self.instr_of(images, level);
         if self.seats.follow(level, taken) {
             let segment = segment_in(memory, level);
-            self.seats.begin(level.process, level.depth, segment);
+            self.seats.begin_level(level.process, level.depth, segment);
         }
     }
 

@@ -55,7 +55,7 @@ impl<B: Policy, D: Disk + Drop> Slow<B, D> {
     }
 
     /// Runs a line; a session that took very many lines takes no more.
-    pub fn run(&mut self, alloc: Global, line: &[u8]) -> Result<(), NoMemory>
+    pub fn run_line(&mut self, alloc: Global, line: &[u8]) -> Result<(), NoMemory>
         requires within { IsSessionWithin (D.seen self.old.disk).size self.old.session }
         ensures { IsSessionWithin (D.seen self.new.disk).size self.new.session }
     {

@@ -8,10 +8,8 @@ use crate::slow::Slow;
 use crate::watch::Watch;
 use graft_points::Policy;
 use kernel_model::NoMemory;
-use lab_weave::append_with;
-use lab_words::word_at;
 use std::alloc::Global;
-use text_words::{Parts, number_of};
+use text_words::{Parts, append_with, number_of, word_at};
 use vino_base::Disk;
 
 /// The most instructions of a line that are told one by one.
@@ -40,7 +38,7 @@ fn step<B: Policy, D: Disk + Drop>(
     ensures { IsSessionWithin (D.seen slow.new.disk).size slow.new.session }
 {
     watch.tell_before(alloc, images_of(slow), memory_of(slow), p)?;
-    slow.run(alloc, line)?;
+    slow.run_line(alloc, line)?;
     let view = view_of(alloc, slow)?;
     watch.tell_after(alloc, images_of(slow), memory_of(slow), view, p)?;
     Ok(has_run(slow.out.lines.as_slice()))
@@ -56,7 +54,7 @@ fn run_seen<B: Policy, D: Disk + Drop>(
     requires within { IsSessionWithin (D.seen slow.old.disk).size slow.old.session }
     ensures { IsSessionWithin (D.seen slow.new.disk).size slow.new.session }
 {
-    slow.run(alloc, line)?;
+    slow.run_line(alloc, line)?;
     let view = view_of(alloc, slow)?;
     watch.see(alloc, images_of(slow), memory_of(slow), view)
 }

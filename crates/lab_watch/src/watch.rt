@@ -2,22 +2,23 @@
 
 ghost use Rattle.std.specs.Prelude.{◌≡◌, ◌<◌, IfOk, map};
 ghost use Rattle.vino_top.specs.Bounds.{IsSessionWithin, IsStock};
-ghost use Rattle.lab_weave.specs.Woven.{Weaves};
+ghost use Rattle.lab_levels.specs.Woven.{Weaves};
 
 use crate::looks::images_of;
 use crate::slow::Slow;
 use crate::steps::watch_line;
-use filters::read_keys;
-use graft_loader::Images;
+use graft_loader::{Images, read_keys};
 use graft_points::Policy;
 use kernel_model::NoMemory;
-use lab_levels::{LevelRow, Origin, Outside, Seats, View, append_level, segment_in, standing_of};
+use lab_levels::{
+    LevelRow, Origin, Outside, OwnLines, Seats, View, append_level, count_of, segment_in,
+    standing_of, weave,
+};
 use lab_lines::{LineSink, Piece, pieces_of};
-use lab_text::{Item, Lowered};
-use lab_weave::{OwnLines, append, append_number, append_with, count_of, weave};
+use lab_lowering::{Item, Lowered};
 use ram_space::Ram;
 use std::alloc::{AllocError, Global};
-use text_words::Parts;
+use text_words::{Parts, append, append_number, append_with};
 use vino_base::Disk;
 
 /// The slots of images.
@@ -267,7 +268,7 @@ fn watch_all<B: Policy, D: Disk + Drop>(
 /// What the run of a lab file wrote, and between its lines where each graft stood before each of
 /// its instructions. That is seen in a session of its own over this disk and these policies, which
 /// are to be as those of the run were at its beginning.
-pub fn tell<B: Policy, D: Disk + Drop>(
+pub fn tell_watched<B: Policy, D: Disk + Drop>(
     alloc: Global,
     lowered: &Lowered,
     written: &LineSink,

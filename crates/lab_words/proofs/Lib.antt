@@ -1,1 +1,1 @@
-mod Passing
+mod Fits

@@ -1,8 +1,8 @@
 -- Objects in words.
 use Rattle.std.specs.Prelude.{ℕ, ◌==◌, cond, List, [], ◌++◌, codes, slice_index_or}
 use Rattle.std.specs.List.{slice_split}
-use Rattle.kernel_model.specs.World.{same_bytes}
-use Rattle.lab_forms.specs.Forms.{before_parenthesis}
+use Rattle.script_model.specs.World.{same_bytes}
+use Rattle.lab_words.specs.Forms.{before_parenthesis}
 
 -- the k-th part of a text between separators, from 0; nothing past their end
 abbrev pub part_at : List ℕ → (separator k : ℕ) → List ℕ

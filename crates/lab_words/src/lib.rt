@@ -1,13 +1,16 @@
-//! What the codes and the lines of the program say, in words.
+//! The forms of the lines that the program writes, and what its lines and codes say in words.
 #![tactic(auto)]
 
+mod beside;
+mod form;
 mod sentences;
+mod slot;
 
-pub use kernel_model::{AsmKind, LangKind, NoMemory};
-pub use lab_code_words::{Words, append, codes_page, explanation, page_of, words_of};
+pub use crate::form::{Form, PLAIN_FORMS, form_is_told, form_of, told_form};
+pub use crate::sentences::{append_object, sentence_of};
+pub use crate::slot::before_parenthesis;
 pub use lab_codes::{
     CODES, CallCode, Code, DropCode, ImageCode, InputCode, RewriterCode, ScriptCode, StatusCode,
-    code_of, text_of,
+    Words, code_of, codes_page, explanation, page_of, text_of, words_of,
 };
-pub use lab_forms::{Form, PLAIN_FORMS, form_is_told, form_of};
-pub use sentences::{append_object, part_at, tell, word_at};
+pub use script_model::{AsmKind, LangKind, NoMemory};

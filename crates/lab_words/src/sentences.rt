@@ -1,41 +1,18 @@
 //! A written line in words.
 
-ghost use Rattle.std.specs.Prelude.{◌≡◌, ◌==◌, [], ◌++◌, is_some, slice_index_or, IfOk, OnOk};
-ghost use Rattle.std.specs.List.{slice_split};
-ghost use Rattle.lab_forms.specs.Forms as spec;
+ghost use Rattle.std.specs.Prelude.{◌≡◌, ◌==◌, [], ◌++◌, is_some, IfOk, OnOk};
+ghost use Rattle.lab_words.specs.Forms as spec;
 ghost use Rattle.lab_words.specs.Objects as objects;
 
-use kernel_model::NoMemory;
-use lab_code_words::{append, words_of};
-use lab_codes::{CallCode, Code, DropCode, ImageCode, RewriterCode};
-use lab_forms::{Form, before_parenthesis, told_form};
+use crate::form::{Form, told_form};
+use crate::slot::before_parenthesis;
+use lab_codes::{CallCode, Code, DropCode, ImageCode, RewriterCode, words_of};
+use script_model::NoMemory;
 use std::alloc::Global;
-use text_words::Parts;
+use text_words::{append, part_at, word_at};
 
 /// The bytes that most sentences have room in.
 const SENTENCE_BYTES: usize = 160;
-
-/// The k-th word of a line, from 0; nothing past their end.
-pub fn word_at(line: &[u8], k: usize) -> &[u8]
-    ensures { result.now ≡ slice_index_or (slice_split (λ b. b == 32) line.now) k [] }
-{
-    part_at(line, b' ', k)
-}
-
-#[tactic(auto, using(crate::proofs::Passing::taken, crate::proofs::Passing::past))]
-/// The k-th part of a text between separators; nothing past their end.
-pub fn part_at(text: &[u8], separator: u8, k: usize) -> &[u8]
-    ensures { result.now ≡ slice_index_or (slice_split (λ b. b == separator) text.now) k [] }
-{
-    let mut parts = Parts::new(text, separator);
-    for _ in 0..k {
-        let _ = parts.next();
-    }
-    match parts.next() {
-        Some(part) => part,
-        None => [].as_slice(),
-    }
-}
 
 #[tactic(auto, unfolding(crate::specs::Objects::numbers_of))]
 /// The numbers of an object, as `1,0` of `Cell(1,0)`.
@@ -297,7 +274,7 @@ fn room_of(alloc: Global) -> Result<Vec<u8>, NoMemory> {
 /// A written line without its newline in words, as `DROPPED: the graft of process 1 at point 5
 /// divided by zero; undone`. None for a line that has no form, and for one that says it itself
 /// (`form_is_told`).
-pub fn tell(alloc: Global, line: &[u8]) -> Result<Option<Vec<u8>>, NoMemory>
+pub fn sentence_of(alloc: Global, line: &[u8]) -> Result<Option<Vec<u8>>, NoMemory>
     ensures { IfOk result (λ told. is_some told ≡ spec.is_told (spec.form_of line.now)) }
 {
     match told_form(line) {

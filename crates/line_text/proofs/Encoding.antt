@@ -2,7 +2,7 @@
 use Rattle.std.proofs.Common.{◌≡◌, ℕ, ◌*◌, ◌%◌, ◌/◌, List, [], ◌∷◌, length, refl, ap, arith}
 use Rattle.std.specs.Prelude.{codes}
 use Rattle.hex.specs.Hex.{encode_with}
-use Rattle.kernel_model.specs.Bytes.{hex_digit, hex_text}
+use Rattle.script_model.specs.Bytes.{hex_digit, hex_text}
 
 -- bytes as digits of lower case
 pub encode_with-lower : (bytes : List ℕ) → encode_with (codes "0123456789abcdef") bytes ≡ hex_text bytes

@@ -1,6 +1,6 @@
 -- Rows that are lent.
 use Rattle.std.specs.Prelude.{◌≤◌, length}
-use Rattle.kernel_model.specs.declared.RawRow.{RawRow}
+use Rattle.script_model.specs.declared.RawRow.{RawRow}
 use Rattle.line_text.specs.declared.rows.LentRow.{LentRow}
 
 -- the row that a lent one is

@@ -2,7 +2,8 @@
 //! it needs.
 
 ghost use Rattle.std.specs.Prelude.{◌≡◌, ◌<◌, ◌≤◌, ◌+◌, ◌*◌, ◌∷◌, ◌++◌, length, take, decimal};
-ghost use Rattle.kernel_model.specs.Text.{spaced, after_colon, all_spaced, data_text};
+ghost use Rattle.script_model.specs.Bytes.{spaced};
+ghost use Rattle.script_model.specs.Text.{after_colon, all_spaced, data_text};
 
 use crate::cells::{Cells, add, hex_digits, number};
 

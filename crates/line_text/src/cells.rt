@@ -3,7 +3,7 @@
 //! this count need not go through memory between two parts of a line.
 
 ghost use Rattle.std.specs.Prelude.{◌≡◌, ◌≤◌, ◌+◌, ◌*◌, ◌++◌, length, take, decimal};
-ghost use Rattle.kernel_model.specs.Bytes.{hex_text};
+ghost use Rattle.script_model.specs.Bytes.{hex_text};
 
 use crate::digits::count_digits;
 

@@ -1,7 +1,8 @@
 //! The lines of a run that have no note: of `boot`, of images, of refused lines.
 
 ghost use Rattle.std.specs.Prelude.{◌≡◌, ◌≤◌, ◌++◌, ◌∷◌, length, codes, decimal};
-ghost use Rattle.kernel_model.specs.Text.{line, spaced, boot_text, left_text, usage_text};
+ghost use Rattle.script_model.specs.Text.{line, boot_text, left_text, usage_text};
+ghost use Rattle.script_model.specs.Bytes.{spaced};
 
 use crate::append::{number_u8, number_u32, spaced_u8, spaced_u32};
 use crate::cells::add;

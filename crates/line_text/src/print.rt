@@ -1,14 +1,15 @@
 //! `print_note`: the line of a note.
 
 ghost use Rattle.std.specs.Prelude.{◌≡◌, ◌≤◌, ◌<◌, ◌+◌, ◌++◌, length, take};
-ghost use Rattle.kernel_model.specs.Bare.{note_with};
-ghost use Rattle.kernel_model.specs.Text.{spaced, pair_text, single_text, object_text, reply_text};
-ghost use Rattle.kernel_model.specs.Text.{refusal_text, cause_text, note_text, line};
+ghost use Rattle.script_model.specs.Bare.{note_with};
+ghost use Rattle.script_model.specs.Bytes.{spaced};
+ghost use Rattle.script_model.specs.Text.{pair_text, single_text, object_text, reply_text};
+ghost use Rattle.script_model.specs.Text.{refusal_text, cause_text, note_text, line};
 
 use crate::append::{data, number_u8, number_u32, spaced_u8, spaced_u32, spaced_u64};
 use crate::cells::{Cells, add};
 use crate::text::Text;
-use kernel_model::{BareNote, Cause, Object, Refusal, Reply};
+use script_model::{BareNote, Cause, Object, Refusal, Reply};
 
 /// Two numbers in parentheses.
 fn pair(out: &mut Cells, at: usize, a: u8, b: u8) -> usize
@@ -194,7 +195,12 @@ fn note_bytes(note: &BareNote, bytes: &[u8], out: &mut Cells, at: usize) -> usiz
             let at = add(out, at, b" data".as_slice());
             data(out, at, bytes)
         }
-        BareNote::Dropped(m, q, pt, c) => {
+        BareNote::Dropped {
+            number: m,
+            installer: q,
+            point: pt,
+            cause: c,
+        } => {
             let at = number_u32(out, at, m);
             let at = add(out, at, b" drop".as_slice());
             let at = spaced_u8(out, at, q);
@@ -207,13 +213,22 @@ fn note_bytes(note: &BareNote, bytes: &[u8], out: &mut Cells, at: usize) -> usiz
             let at = add(out, at, b" ran".as_slice());
             spaced_u32(out, at, taken)
         }
-        BareNote::Waits(m, o, holder) => {
+        BareNote::Waits {
+            number: m,
+            object: o,
+            holder,
+        } => {
             let at = number_u32(out, at, m);
             let at = add(out, at, b" waits ".as_slice());
             let at = object(out, at, o);
             spaced_u8(out, at, holder)
         }
-        BareNote::InGraft(m, q, pt, depth) => {
+        BareNote::InGraft {
+            number: m,
+            installer: q,
+            point: pt,
+            depth,
+        } => {
             let at = number_u32(out, at, m);
             let at = add(out, at, b" graft".as_slice());
             let at = spaced_u8(out, at, q);

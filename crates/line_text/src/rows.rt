@@ -1,16 +1,17 @@
 //! `print_row` and `print_lent`: the line of a raw row.
 
 ghost use Rattle.std.specs.Prelude.{◌≡◌, ◌≤◌, ◌<◌, ◌+◌, ◌*◌, ◌++◌, length, take, codes, decimal, flat_map, Option};
-ghost use Rattle.kernel_model.specs.Text.{spaced, bit, queue_text, frame_text, param_text};
-ghost use Rattle.kernel_model.specs.Text.{wait_text, top_text, inverse_text, open_text, row_text};
-ghost use Rattle.kernel_model.specs.Text.{line};
+ghost use Rattle.script_model.specs.Bytes.{spaced};
+ghost use Rattle.script_model.specs.Text.{bit, queue_text, frame_text, param_text};
+ghost use Rattle.script_model.specs.Text.{wait_text, top_text, inverse_text, open_text, row_text};
+ghost use Rattle.script_model.specs.Text.{line};
 ghost use Rattle.line_text.specs.Rows.{row_lent, FitsLine};
 
 use crate::append::{all_u32, all_u64, colon_u8, colon_u32, number_u32, spaced_u8, spaced_u32};
 use crate::cells::{Cells, add};
 use crate::print::object;
 use crate::text::Text;
-use kernel_model::{FrameRow, Inverse, OpenRow, QueueRow, RawRow, TopRow, WaitRow};
+use script_model::{FrameRow, Inverse, OpenRow, QueueRow, RawRow, TopRow, WaitRow};
 
 /// A row of a kernel's whole state whose lists and amounts stand elsewhere, so that it is small.
 /// Contracts see it by `row_lent` as the row.
@@ -20,14 +21,45 @@ pub enum LentRow<'a> {
     Queue(&'a [QueueRow]),
     Acct(u8, &'a [u64; 6]),
     Cells(u8, &'a [u32; 4]),
-    OpenFile(u8, u8, &'a [u8], OpenRow),
-    Graft(u8, u8, u8, u32, bool, &'a [u64; 3]),
-    Pol(u8, u8, Option<u32>),
+    OpenFile {
+        process: u8,
+        descriptor: u8,
+        name: &'a [u8],
+        row: OpenRow,
+    },
+    Graft {
+        installer: u8,
+        point: u8,
+        slot: u8,
+        limit: u32,
+        billed: bool,
+        amounts: &'a [u64; 3],
+    },
+    Pol {
+        kind: u8,
+        policy: u8,
+        parameter: Option<u32>,
+    },
     Lru(&'a [FrameRow]),
     Lock(u8, u8),
-    Call(u8, u32, Option<WaitRow>, Option<TopRow>),
-    Level(u8, u8, u8, u8, u32),
-    Undo(u8, u8, Inverse),
+    Call {
+        process: u8,
+        number: u32,
+        wait: Option<WaitRow>,
+        top: Option<TopRow>,
+    },
+    Level {
+        process: u8,
+        depth: u8,
+        installer: u8,
+        point: u8,
+        taken: u32,
+    },
+    Undo {
+        process: u8,
+        depth: u8,
+        inverse: Inverse,
+    },
 }
 
 /// 1 or 0.
@@ -154,7 +186,11 @@ fn inverse(out: &mut Cells, at: usize, i: Inverse) -> usize
     ensures end { result ≤ at + 23 }
 {
     match i {
-        Inverse::Cell(q, k, v) => {
+        Inverse::Cell {
+            process: q,
+            cell: k,
+            value: v,
+        } => {
             let at = add(out, at, b"cell".as_slice());
             let at = spaced_u8(out, at, q);
             let at = spaced_u8(out, at, k);
@@ -165,7 +201,11 @@ fn inverse(out: &mut Cells, at: usize, i: Inverse) -> usize
             let at = spaced_u8(out, at, q);
             spaced_u8(out, at, v)
         }
-        Inverse::Window(q, fd, v) => {
+        Inverse::Window {
+            process: q,
+            descriptor: fd,
+            value: v,
+        } => {
             let at = add(out, at, b"window".as_slice());
             let at = spaced_u8(out, at, q);
             let at = spaced_u8(out, at, fd);
@@ -176,7 +216,11 @@ fn inverse(out: &mut Cells, at: usize, i: Inverse) -> usize
             let at = spaced_u8(out, at, f);
             spaced_u8(out, at, v)
         }
-        Inverse::Tune(kind, k, v) => {
+        Inverse::Tune {
+            kind,
+            parameter: k,
+            value: v,
+        } => {
             let at = add(out, at, b"tune".as_slice());
             let at = spaced_u8(out, at, kind);
             let at = spaced_u8(out, at, k);
@@ -216,7 +260,12 @@ fn row_bytes(row: &LentRow, out: &mut Cells, at: usize) -> usize
             let at = spaced_u8(out, at, p);
             all_u32(out, at, cells)
         }
-        LentRow::OpenFile(p, fd, name, o) => {
+        LentRow::OpenFile {
+            process: p,
+            descriptor: fd,
+            name,
+            row: o,
+        } => {
             let at = add(out, at, b"open".as_slice());
             let at = spaced_u8(out, at, p);
             let at = spaced_u8(out, at, fd);
@@ -224,7 +273,14 @@ fn row_bytes(row: &LentRow, out: &mut Cells, at: usize) -> usize
             let at = add(out, at, name);
             open_file(out, at, o)
         }
-        LentRow::Graft(q, pt, image, limit, billed, amounts) => {
+        LentRow::Graft {
+            installer: q,
+            point: pt,
+            slot: image,
+            limit,
+            billed,
+            amounts,
+        } => {
             let at = add(out, at, b"graft".as_slice());
             let at = spaced_u8(out, at, q);
             let at = spaced_u8(out, at, pt);
@@ -233,7 +289,11 @@ fn row_bytes(row: &LentRow, out: &mut Cells, at: usize) -> usize
             let at = spaced_u8(out, at, bit_of(billed));
             all_u64(out, at, amounts)
         }
-        LentRow::Pol(kind, j, v) => {
+        LentRow::Pol {
+            kind,
+            policy: j,
+            parameter: v,
+        } => {
             let at = add(out, at, b"pol".as_slice());
             let at = spaced_u8(out, at, kind);
             let at = spaced_u8(out, at, j);
@@ -248,14 +308,25 @@ fn row_bytes(row: &LentRow, out: &mut Cells, at: usize) -> usize
             let at = spaced_u8(out, at, u);
             spaced_u8(out, at, p)
         }
-        LentRow::Call(p, m, w, t) => {
+        LentRow::Call {
+            process: p,
+            number: m,
+            wait: w,
+            top: t,
+        } => {
             let at = add(out, at, b"call".as_slice());
             let at = spaced_u8(out, at, p);
             let at = spaced_u32(out, at, m);
             let at = wait(out, at, w);
             top(out, at, t)
         }
-        LentRow::Level(p, d, q, pt, taken) => {
+        LentRow::Level {
+            process: p,
+            depth: d,
+            installer: q,
+            point: pt,
+            taken,
+        } => {
             let at = add(out, at, b"level".as_slice());
             let at = spaced_u8(out, at, p);
             let at = spaced_u8(out, at, d);
@@ -263,7 +334,11 @@ fn row_bytes(row: &LentRow, out: &mut Cells, at: usize) -> usize
             let at = spaced_u8(out, at, pt);
             spaced_u32(out, at, taken)
         }
-        LentRow::Undo(p, d, i) => {
+        LentRow::Undo {
+            process: p,
+            depth: d,
+            inverse: i,
+        } => {
             let at = add(out, at, b"undo".as_slice());
             let at = spaced_u8(out, at, p);
             let at = spaced_u8(out, at, d);
@@ -283,16 +358,78 @@ fn lent(row: &RawRow) -> LentRow<'_>
         RawRow::Queue(rows) => LentRow::Queue(rows.as_slice()),
         RawRow::Acct(p, amounts) => LentRow::Acct(*p, amounts),
         RawRow::Cells(p, cells) => LentRow::Cells(*p, cells),
-        RawRow::OpenFile(p, fd, name, o) => LentRow::OpenFile(*p, *fd, name.as_slice(), *o),
-        RawRow::Graft(q, pt, image, limit, billed, amounts) => {
-            LentRow::Graft(*q, *pt, *image, *limit, *billed, amounts)
+        RawRow::OpenFile {
+            process: p,
+            descriptor: fd,
+            name,
+            row: o,
+        } => LentRow::OpenFile {
+            process: *p,
+            descriptor: *fd,
+            name: name.as_slice(),
+            row: *o,
+        },
+        RawRow::Graft {
+            installer: q,
+            point: pt,
+            slot: image,
+            limit,
+            billed,
+            amounts,
+        } => {
+            LentRow::Graft {
+                installer: *q,
+                point: *pt,
+                slot: *image,
+                limit: *limit,
+                billed: *billed,
+                amounts,
+            }
         }
-        RawRow::Pol(kind, j, v) => LentRow::Pol(*kind, *j, *v),
+        RawRow::Pol {
+            kind,
+            policy: j,
+            parameter: v,
+        } => LentRow::Pol {
+            kind: *kind,
+            policy: *j,
+            parameter: *v,
+        },
         RawRow::Lru(rows) => LentRow::Lru(rows.as_slice()),
         RawRow::Lock(u, p) => LentRow::Lock(*u, *p),
-        RawRow::Call(p, m, w, t) => LentRow::Call(*p, *m, *w, *t),
-        RawRow::Level(p, d, q, pt, taken) => LentRow::Level(*p, *d, *q, *pt, *taken),
-        RawRow::Undo(p, d, i) => LentRow::Undo(*p, *d, *i),
+        RawRow::Call {
+            process: p,
+            number: m,
+            wait: w,
+            top: t,
+        } => LentRow::Call {
+            process: *p,
+            number: *m,
+            wait: *w,
+            top: *t,
+        },
+        RawRow::Level {
+            process: p,
+            depth: d,
+            installer: q,
+            point: pt,
+            taken,
+        } => LentRow::Level {
+            process: *p,
+            depth: *d,
+            installer: *q,
+            point: *pt,
+            taken: *taken,
+        },
+        RawRow::Undo {
+            process: p,
+            depth: d,
+            inverse: i,
+        } => LentRow::Undo {
+            process: *p,
+            depth: *d,
+            inverse: *i,
+        },
     }
 }
 

@@ -1,8 +1,8 @@
 //! `Text`: a line that is written.
 
 ghost use Rattle.std.specs.Prelude.{◌≡◌, ◌≤◌, ◌+◌, ◌*◌, [], ◌∷◌, ◌++◌, length, nat_lt, if◌then◌else◌};
-ghost use Rattle.kernel_model.specs.Bytes.{hex_text};
-ghost use Rattle.kernel_model.specs.Text.{spaced};
+ghost use Rattle.script_model.specs.Bytes.{hex_text};
+ghost use Rattle.script_model.specs.Bytes.{spaced};
 
 use crate::append::spaced_u64;
 use crate::cells::{Cells, TEXT_BYTES, add, hex_digits};

@@ -1,6 +1,8 @@
 -- Lemmas on the numbers that are noted beside the masks.
-use Rattle.std.proofs.Common.{◌≡◌, ◌≢◌, ℕ, zero, suc, ◌+◌, ◌<◌, ◌≤◌, Bool, true, false, cond, ◌==◌, nat_eq, nat_lt, List, [], ◌∷◌, ◌++◌, length, get_or, set, take, drop, filter, refl, arith, ◌∙◌, sym, ap, ⊎_elim}
-use Rattle.std.specs.List.{AllByRecursion as Each, IsDistinct, list_any}
+use Rattle.std.proofs.Common.{◌≡◌, ◌≢◌, ℕ, zero, suc, ◌+◌, ◌<◌, ◌≤◌, Bool, true, false, cond, ◌==◌}
+use Rattle.std.proofs.Common.{nat_eq, nat_lt, List, [], ◌∷◌, ◌++◌, length, get_or, set, take, drop}
+use Rattle.std.proofs.Common.{filter, refl, arith, ◌∙◌, sym, ap, ⊎_elim}
+use Rattle.std.specs.List.{AllByRecursion, IsDistinct, list_any}
 use Rattle.std.proofs.lemmas.Bool.{or_cases, eqb-true}
 use Rattle.std.proofs.lemmas.Bool.Decides.{nat_tests}
 use Rattle.std.proofs.lemmas.List.{get_or-set_same, get_or-set_other}
@@ -24,7 +26,8 @@ times-filter p n [] = grind (arith, nat_tests)
 times-filter p n (x ∷ xs) = grind (arith, nat_tests, times-filter p n xs)
 
 -- one more number of a list
-times-more : (n : ℕ) (xs : List ℕ) (k : ℕ) → k < length xs → times n (take (k + 1) xs) ≡ times n (take k xs) + cond (get_or xs k 0 == n) 1 0
+times-more : (n : ℕ) (xs : List ℕ) (k : ℕ) → k < length xs →
+    times n (take (k + 1) xs) ≡ times n (take k xs) + cond (get_or xs k 0 == n) 1 0
 times-more n [] k lt = absurd (omega (arith, lt))
 times-more n (x ∷ xs) zero lt = grind (arith, nat_tests)
 times-more n (x ∷ xs) (suc k) lt = grind (arith, nat_tests, times-more n xs k)
@@ -45,7 +48,7 @@ times_first x xs = grind (arith, nat_tests)
 times_other : (x y : ℕ) (ys : List ℕ) → times x (y ∷ ys) ≡ 0 → (nat_eq x y ≡ false) × (times x ys ≡ 0)
 times_other x y ys h = grind (arith, nat_tests)
 
-absent : (x : ℕ) (ys : List ℕ) → times x ys ≡ 0 → Each (λ y. nat_eq x y ≡ false) ys
+absent : (x : ℕ) (ys : List ℕ) → times x ys ≡ 0 → AllByRecursion (λ y. nat_eq x y ≡ false) ys
 absent x [] h = tt
 absent x (y ∷ ys) h = let k = times_other x y ys h in (k.0, absent x ys k.1)
 
@@ -87,12 +90,15 @@ used_inside masks n is = go (nat_lt n (length masks)) refl
         absurd cc
 
 -- a number that stands in the list is of an object that is used
-listed_used : (masks : List Holds) (numbers : List ℕ) (n : ℕ) → IsNoted masks numbers → 1 ≤ times n numbers → is_used (holds_at masks n) ≡ true
+listed_used : (masks : List Holds) (numbers : List ℕ) (n : ℕ) → IsNoted masks numbers →
+    1 ≤ times n numbers → is_used (holds_at masks n) ≡ true
 listed_used masks numbers n noted le = go (is_used (holds_at masks n)) refl
   where
     go : (b : Bool) → is_used (holds_at masks n) ≡ b → is_used (holds_at masks n) ≡ true
     go true h = h
-    go false h = let none : times n numbers ≡ 0 = noted.once n ∙ ap (λ (b : Bool). cond b 1 0) h in absurd (omega (arith, none, le))
+    go false h =
+        let none : times n numbers ≡ 0 = noted.once n ∙ ap (λ (b : Bool). cond b 1 0) h in
+        absurd (omega (arith, none, le))
 
 at_most_once : (masks : List Holds) (numbers : List ℕ) (n : ℕ) → IsNoted masks numbers → times n numbers ≤ 1
 at_most_once masks numbers n noted = rw (noted.once n) (go (is_used (holds_at masks n)))
@@ -102,16 +108,20 @@ at_most_once masks numbers n noted = rw (noted.once n) (go (is_used (holds_at ma
     go false = omega arith
 
 -- the number at a place of the list stands in it, and not before
-pub stands_there : (numbers : List ℕ) (k : ℕ) → k < length numbers → times (get_or numbers k 0) (take (k + 1) numbers) ≡ times (get_or numbers k 0) (take k numbers) + 1
+pub stands_there : (numbers : List ℕ) (k : ℕ) → k < length numbers → times (get_or numbers k 0)
+    (take (k + 1) numbers) ≡ times (get_or numbers k 0) (take k numbers) + 1
 stands_there numbers k lt = times-more (get_or numbers k 0) numbers k lt ∙ grind (arith, nat_tests)
 
-pub noted_inside : (masks : List Holds) (numbers : List ℕ) (k : ℕ) → IsNoted masks numbers → k < length numbers → get_or numbers k 0 < length masks
+pub noted_inside : (masks : List Holds) (numbers : List ℕ) (k : ℕ) → IsNoted masks numbers →
+    k < length numbers → get_or numbers k 0 < length masks
 noted_inside masks numbers k noted lt =
     let there = stands_there numbers k lt in
     let within = times-take (get_or numbers k 0) numbers (k + 1) in
-    used_inside masks (get_or numbers k 0) (listed_used masks numbers (get_or numbers k 0) noted (omega (arith, there, within)))
+    used_inside masks (get_or numbers k 0)
+    (listed_used masks numbers (get_or numbers k 0) noted (omega (arith, there, within)))
 
-pub first_time : (masks : List Holds) (numbers : List ℕ) (k : ℕ) → IsNoted masks numbers → k < length numbers → times (get_or numbers k 0) (take k numbers) ≡ 0
+pub first_time : (masks : List Holds) (numbers : List ℕ) (k : ℕ) → IsNoted masks numbers →
+    k < length numbers → times (get_or numbers k 0) (take k numbers) ≡ 0
 first_time masks numbers k noted lt =
     let there = stands_there numbers k lt in
     let within = times-take (get_or numbers k 0) numbers (k + 1) in
@@ -119,7 +129,8 @@ first_time masks numbers k noted lt =
     omega (arith, there, within, once)
 
 -- an object that isn't used has room in the list
-pub room : (masks : List Holds) (numbers : List ℕ) (n size : ℕ) → IsNoted masks numbers → length masks ≡ size → n < size → is_used (holds_at masks n) ≡ false → length numbers < size
+pub room : (masks : List Holds) (numbers : List ℕ) (n size : ℕ) → IsNoted masks numbers →
+    length masks ≡ size → n < size → is_used (holds_at masks n) ≡ false → length numbers < size
 room masks numbers n size noted is lt free = rw (sym is) (fits (few (n ∷ numbers) (length masks) once below))
   where
     fits : length (n ∷ numbers) ≤ length masks → length numbers < length masks
@@ -140,7 +151,11 @@ room masks numbers n size noted is lt free = rw (sym is) (fits (few (n ∷ numbe
 
 -- nothing is held, nothing is noted
 pub noted_none : (masks : List Holds) → ((n : ℕ) → holds_at masks n ≡ no_holds) → IsNoted masks []
-noted_none masks none = record { once = λ n. sym (ap (λ (h : Holds). cond (is_used h) 1 0) (none n) ∙ ap (λ (b : Bool). cond b 1 0) no_holds-unused) }
+noted_none masks none =
+    record {
+      once = λ n. sym (ap (λ (h : Holds). cond (is_used h) 1 0) (none n)
+          ∙ ap (λ (b : Bool). cond b 1 0) no_holds-unused);
+    }
 
 -- what is written through the list's own slice is the whole list
 pub whole : (new old : List Holds) (numbers : List ℕ) (n : ℕ) → length new ≡ n → length new ≡ 421 → IsNoted new numbers
@@ -151,21 +166,26 @@ whole new old numbers n h size noted = rw (written new old n h) (size, noted)
 pub noted_touch : (old new : List Holds) (before after : List ℕ) (n : ℕ) → IsNoted old before
     → ((i : ℕ) → is_used (holds_at new i) ≡ cond (i == n) true (is_used (holds_at old i)))
     → after ≡ cond (is_used (holds_at old n)) before (before ++ n ∷ []) → IsNoted new after
-noted_touch old new before after n noted used is = record { once = λ i. rw (used i) (go i (is_used (holds_at old n)) refl) }
+noted_touch old new before after n noted used is =
+    record { once = λ i. rw (used i) (go i (is_used (holds_at old n)) refl) }
   where
-    go : (i : ℕ) (b : Bool) → is_used (holds_at old n) ≡ b → times i after ≡ cond (cond (i == n) true (is_used (holds_at old i))) 1 0
+    go : (i : ℕ) (b : Bool) → is_used (holds_at old n) ≡ b →
+        times i after ≡ cond (cond (i == n) true (is_used (holds_at old i))) 1 0
     go i true h =
         let same : after ≡ before = is ∙ ap (λ (b : Bool). cond b before (before ++ n ∷ [])) h in
         rw same (noted.once i ∙ kept (i == n) refl)
       where
-        kept : (b : Bool) → (i == n) ≡ b → ◌≡◌ {A = ℕ} (cond (is_used (holds_at old i)) 1 0) (cond (cond (i == n) true (is_used (holds_at old i))) 1 0)
+        kept : (b : Bool) → (i == n) ≡ b → ◌≡◌ {A = ℕ} (cond (is_used (holds_at old i)) 1 0)
+            (cond (cond (i == n) true (is_used (holds_at old i))) 1 0)
         kept true e = let there : i ≡ n = grind (arith, nat_tests, e) in rw (e, there, h) refl
         kept false e = rw e refl
     go i false h =
         let same : after ≡ before ++ n ∷ [] = is ∙ ap (λ (b : Bool). cond b before (before ++ n ∷ [])) h in
-        rw same (times-append i before (n ∷ []) ∙ ap (λ (t : ℕ). t + times i (n ∷ [])) (noted.once i) ∙ more (i == n) refl)
+        rw same (times-append i before (n ∷ [])
+        ∙ ap (λ (t : ℕ). t + times i (n ∷ [])) (noted.once i) ∙ more (i == n) refl)
       where
-        more : (b : Bool) → (i == n) ≡ b → ◌≡◌ {A = ℕ} (cond (is_used (holds_at old i)) 1 0 + times i (n ∷ [])) (cond (cond (i == n) true (is_used (holds_at old i))) 1 0)
+        more : (b : Bool) → (i == n) ≡ b → ◌≡◌ {A = ℕ} (cond (is_used (holds_at old i)) 1
+            0 + times i (n ∷ [])) (cond (cond (i == n) true (is_used (holds_at old i))) 1 0)
         more true e = let there : i ≡ n = grind (arith, nat_tests, e) in rw (there, h) (grind (arith, nat_tests))
         more false e = let apart : (n == i) ≡ false = grind (arith, nat_tests, e) in rw (e, apart) (grind arith)
 
@@ -173,15 +193,23 @@ noted_touch old new before after n noted used is = record { once = λ i. rw (use
 pub noted_merge : (old new : List Holds) (numbers : List ℕ) (d : ℕ) → 0 < d → d < 4 → IsNoted old numbers
     → ((n e : ℕ) → levels_at new n e ≡ merged d (levels_at old n) e) → IsNoted new numbers
 noted_merge old new numbers d inner lt noted h =
-    record { once = λ n. noted.once n ∙ ap (λ (b : Bool). cond b 1 0) (sym (merge-used (holds_at old n) (holds_at new n) d inner lt (h n))) }
+    record {
+      once = λ n. noted.once n ∙ ap (λ (b : Bool). cond b 1 0)
+          (sym (merge-used (holds_at old n) (holds_at new n) d inner lt (h n)));
+    }
 
 -- a release, after which what isn't used any more is taken out
 pub noted_release : (old new : List Holds) (before after : List ℕ) (d : ℕ) → IsNoted old before
     → ((n e : ℕ) → levels_at new n e ≡ released d (levels_at old n) e)
     → after ≡ filter (λ n. is_used (holds_at new n)) before → IsNoted new after
-noted_release old new before after d noted h is = record { once = λ n. rw is (times-filter (λ (m : ℕ). is_used (holds_at new m)) n before ∙ go n (is_used (holds_at old n)) refl) }
+noted_release old new before after d noted h is =
+    record {
+      once = λ n. rw is (times-filter (λ (m : ℕ). is_used (holds_at new m)) n before
+          ∙ go n (is_used (holds_at old n)) refl);
+    }
   where
-    go : (n : ℕ) (b : Bool) → is_used (holds_at old n) ≡ b → cond (is_used (holds_at new n)) (times n before) 0 ≡ cond (is_used (holds_at new n)) 1 0
+    go : (n : ℕ) (b : Bool) → is_used (holds_at old n) ≡ b →
+        cond (is_used (holds_at new n)) (times n before) 0 ≡ cond (is_used (holds_at new n)) 1 0
     go n true e = ap (λ (t : ℕ). cond (is_used (holds_at new n)) t 0) (noted.once n ∙ ap (λ (b : Bool). cond b 1 0) e)
     go n false e = rw (release-unused (holds_at old n) (holds_at new n) d (h n) e) refl
 
@@ -196,10 +224,12 @@ pub begins : (f : (ℕ → Held) → ℕ → Held) (xs : List Holds) → Changed
 begins f xs = record { done = λ n e le. absurd (omega (arith, le)); rest = λ n h. refl }
 
 -- one more number
-pub goes_on : (f : (ℕ → Held) → ℕ → Held) (old new : List Holds) (numbers : List ℕ) (k n : ℕ) (h : Holds) → IsNoted old numbers → length new ≡ length old
+pub goes_on : (f : (ℕ → Held) → ℕ → Held) (old new : List Holds) (numbers : List ℕ) (k n : ℕ)
+    (h : Holds) → IsNoted old numbers → length new ≡ length old
     → k < length numbers → n ≡ get_or numbers k 0 → ((e : ℕ) → held_by h e ≡ f (levels_at new n) e)
     → Changed f old new (take k numbers) → Changed f old (set new n h) (take (k + 1) numbers)
-goes_on f old new numbers k n h noted size lt is given c = record { done = λ i e le. at_number i e (i == n) refl le; rest = λ i none. elsewhere i none }
+goes_on f old new numbers k n h noted size lt is given c =
+    record { done = λ i e le. at_number i e (i == n) refl le; rest = λ i none. elsewhere i none }
   where
     inside : n < length new
     inside = rw (is, size) (noted_inside old numbers k noted lt)
@@ -210,10 +240,12 @@ goes_on f old new numbers k n h noted size lt is given c = record { done = λ i 
     more : (i : ℕ) → times i (take (k + 1) numbers) ≡ times i (take k numbers) + cond (n == i) 1 0
     more i = times-more i numbers k lt ∙ ap (λ (m : ℕ). times i (take k numbers) + cond (m == i) 1 0) (sym is)
 
-    at_number : (i e : ℕ) (b : Bool) → (i == n) ≡ b → 1 ≤ times i (take (k + 1) numbers) → levels_at (set new n h) i e ≡ f (levels_at old i) e
+    at_number : (i e : ℕ) (b : Bool) → (i == n) ≡ b → 1 ≤ times i (take (k + 1) numbers) →
+        levels_at (set new n h) i e ≡ f (levels_at old i) e
     at_number i e true same le =
         let here : i ≡ n = grind (arith, nat_tests, same) in
-        rw here (rw (get_or-set_same new n h no_holds inside) (given e ∙ ap (λ (x : Holds). f (held_by x) e) untouched_yet))
+        rw here (rw (get_or-set_same new n h no_holds inside)
+        (given e ∙ ap (λ (x : Holds). f (held_by x) e) untouched_yet))
     at_number i e false same le =
         let other : i ≢ n = λ here. grind (arith, nat_tests, same, here) in
         let before : 1 ≤ times i (take k numbers) = let m = more i in grind (arith, nat_tests, m, le, same) in
@@ -232,7 +264,9 @@ all_taken (x ∷ xs) zero le = absurd (omega (arith, le))
 all_taken (x ∷ xs) (suc k) le = ap (λ (ys : List ℕ). x ∷ ys) (all_taken xs k (omega (arith, le)))
 
 -- all numbers are done: what no level holds stays free
-pub ends : (f : (ℕ → Held) → ℕ → Held) (old new : List Holds) (numbers : List ℕ) (k : ℕ) → length numbers ≤ k → ((h : ℕ → Held) → ((e : ℕ) → h e ≡ Held.Free) → (e : ℕ) → f h e ≡ Held.Free)
+pub ends : (f : (ℕ → Held) → ℕ → Held) (old new : List Holds) (numbers : List ℕ) (k : ℕ) →
+    length numbers ≤ k →
+    ((h : ℕ → Held) → ((e : ℕ) → h e ≡ Held.Free) → (e : ℕ) → f h e ≡ Held.Free)
     → IsNoted old numbers → Changed f old new (take k numbers) → (n e : ℕ) → levels_at new n e ≡ f (levels_at old n) e
 ends f old new numbers k le free noted c n e = go (is_used (holds_at old n)) refl
   where
@@ -249,8 +283,10 @@ ends f old new numbers k le free noted c n e = go (is_used (holds_at old n)) ref
         ap (λ (x : Holds). held_by x e) (c.rest n (rw all none)) ∙ nothing e ∙ sym (free (levels_at old n) nothing e)
 
 -- where nothing is noted nothing is held
-pub none_noted : (masks : List Holds) (numbers : List ℕ) → IsNoted masks numbers → length numbers ≡ 0 → (n e : ℕ) → levels_at masks n e ≡ Held.Free
-none_noted masks [] noted empty n e = free_levels (holds_at masks n) (free (is_used (holds_at masks n)) (noted.once n)) e
+pub none_noted : (masks : List Holds) (numbers : List ℕ) → IsNoted masks numbers →
+    length numbers ≡ 0 → (n e : ℕ) → levels_at masks n e ≡ Held.Free
+none_noted masks [] noted empty n e =
+    free_levels (holds_at masks n) (free (is_used (holds_at masks n)) (noted.once n)) e
   where
     free : (b : Bool) → ◌≡◌ {A = ℕ} 0 (cond b 1 0) → b ≡ false
     free true h = absurd (omega (arith, h))
@@ -258,7 +294,8 @@ none_noted masks [] noted empty n e = free_levels (holds_at masks n) (free (is_u
 none_noted masks (x ∷ xs) noted empty n e = absurd (omega (arith, empty))
 
 -- where something is noted it is held
-pub some_noted : (masks : List Holds) (numbers : List ℕ) → IsNoted masks numbers → length masks ≡ 421 → 0 < length numbers → HoldsSome masks
+pub some_noted : (masks : List Holds) (numbers : List ℕ) → IsNoted masks numbers →
+    length masks ≡ 421 → 0 < length numbers → HoldsSome masks
 some_noted masks numbers noted size some =
     record {
       number = get_or numbers 0 0;

@@ -40,15 +40,30 @@ pub record Numbered (n : ℕ) : Type 0 where
 
 graft_numbered : (n : ℕ) → n < 256 → Numbered n
 unfolding number_of
-graft_numbered n lt = record { object = Graft (n / 16) (n % 16); range = (omega (arith, lt), omega arith); is = omega arith }
+graft_numbered n lt =
+    record {
+      object = Graft (n / 16) (n % 16);
+      range = (omega (arith, lt), omega arith);
+      is = omega arith;
+    }
 
 cell_numbered : (n : ℕ) → n < 64 → Numbered (272 + n)
 unfolding number_of
-cell_numbered n lt = record { object = Cell (n / 4) (n % 4); range = (omega (arith, lt), omega arith); is = omega arith }
+cell_numbered n lt =
+    record {
+      object = Cell (n / 4) (n % 4);
+      range = (omega (arith, lt), omega arith);
+      is = omega arith;
+    }
 
 file_numbered : (n : ℕ) → n < 64 → Numbered (336 + n)
 unfolding number_of
-file_numbered n lt = record { object = OpenFile (n / 4) (n % 4); range = (omega (arith, lt), omega arith); is = omega arith }
+file_numbered n lt =
+    record {
+      object = OpenFile (n / 4) (n % 4);
+      range = (omega (arith, lt), omega arith);
+      is = omega arith;
+    }
 
 account_numbered : (n : ℕ) → n < 16 → Numbered (256 + n)
 unfolding number_of
@@ -78,8 +93,13 @@ pub numbered : (n : ℕ) → n < 421 → Numbered n
 numbered n lt = grafts (nat_lt n 256) refl
   where
     policies : (b : Bool) → nat_lt n 418 ≡ b → 402 ≤ n → Numbered n
-    policies true h le = moved (402 + (n - 402)) n (omega (arith, le)) (lock_numbered (n - 402) (grind (arith, nat_tests, h, le)))
-    policies false h le = let from : 418 ≤ n = grind (arith, nat_tests, h) in moved (418 + (n - 418)) n (omega (arith, from)) (policy_numbered (n - 418) (omega (arith, lt, from)))
+    policies true h le =
+        moved (402 + (n - 402)) n
+        (omega (arith, le)) (lock_numbered (n - 402) (grind (arith, nat_tests, h, le)))
+    policies false h le =
+        let from : 418 ≤ n = grind (arith, nat_tests, h) in
+        moved (418 + (n - 418)) n
+        (omega (arith, from)) (policy_numbered (n - 418) (omega (arith, lt, from)))
 
     singles : (b : Bool) → nat_lt n 401 ≡ b → (c : Bool) → nat_lt n 402 ≡ c → 400 ≤ n → Numbered n
     singles true h c i le = moved 400 n (grind (arith, nat_tests, h, le)) queue_numbered
@@ -87,15 +107,21 @@ numbered n lt = grafts (nat_lt n 256) refl
     singles false h false i le = policies (nat_lt n 418) refl (grind (arith, nat_tests, i))
 
     files : (b : Bool) → nat_lt n 400 ≡ b → 336 ≤ n → Numbered n
-    files true h le = moved (336 + (n - 336)) n (omega (arith, le)) (file_numbered (n - 336) (grind (arith, nat_tests, h, le)))
+    files true h le =
+        moved (336 + (n - 336)) n
+        (omega (arith, le)) (file_numbered (n - 336) (grind (arith, nat_tests, h, le)))
     files false h le = singles (nat_lt n 401) refl (nat_lt n 402) refl (grind (arith, nat_tests, h))
 
     cells : (b : Bool) → nat_lt n 336 ≡ b → 272 ≤ n → Numbered n
-    cells true h le = moved (272 + (n - 272)) n (omega (arith, le)) (cell_numbered (n - 272) (grind (arith, nat_tests, h, le)))
+    cells true h le =
+        moved (272 + (n - 272)) n
+        (omega (arith, le)) (cell_numbered (n - 272) (grind (arith, nat_tests, h, le)))
     cells false h le = files (nat_lt n 400) refl (grind (arith, nat_tests, h))
 
     accounts : (b : Bool) → nat_lt n 272 ≡ b → 256 ≤ n → Numbered n
-    accounts true h le = moved (256 + (n - 256)) n (omega (arith, le)) (account_numbered (n - 256) (grind (arith, nat_tests, h, le)))
+    accounts true h le =
+        moved (256 + (n - 256)) n
+        (omega (arith, le)) (account_numbered (n - 256) (grind (arith, nat_tests, h, le)))
     accounts false h le = cells (nat_lt n 336) refl (grind (arith, nat_tests, h))
 
     grafts : (b : Bool) → nat_lt n 256 ≡ b → Numbered n

@@ -1,5 +1,6 @@
 -- Lemmas on lists of masks.
-use Rattle.std.proofs.Common.{◌≡◌, ℕ, ◌<◌, List, [], ◌∷◌, length, get_or, replicate, take, drop, ◌++◌, refl, arith, sym, suc, zero}
+use Rattle.std.proofs.Common.{◌≡◌, ℕ, ◌<◌, List, [], ◌∷◌, length, get_or, replicate, take, drop}
+use Rattle.std.proofs.Common.{◌++◌, refl, arith, sym, suc, zero}
 use Rattle.std.proofs.Math.Seq.{take-append_seam}
 use Rattle.kernel_model.specs.declared.Held.{Held}
 use Rattle.lock_table.specs.declared.Holds.{Holds}
@@ -29,10 +30,12 @@ nothing_there n e = free_levels no_holds no_holds-unused e
 pub none_free : IsFree []
 none_free = record { free = λ p n e. nothing_there n e }
 
-pub one_more_free : (calls : List (List Holds)) (masks : List Holds) → IsFree calls → ((n e : ℕ) → levels_at masks n e ≡ Held.Free) → IsFree (calls ++ masks ∷ [])
+pub one_more_free : (calls : List (List Holds)) (masks : List Holds) → IsFree calls →
+    ((n e : ℕ) → levels_at masks n e ≡ Held.Free) → IsFree (calls ++ masks ∷ [])
 one_more_free calls masks free h = record { free = go calls free.free }
   where
-    go : (xs : List (List Holds)) → ((p n e : ℕ) → levels_at (masks_of xs p) n e ≡ Held.Free) → (p n e : ℕ) → levels_at (masks_of (xs ++ masks ∷ []) p) n e ≡ Held.Free
+    go : (xs : List (List Holds)) → ((p n e : ℕ) → levels_at (masks_of xs p) n e ≡ Held.Free) →
+        (p n e : ℕ) → levels_at (masks_of (xs ++ masks ∷ []) p) n e ≡ Held.Free
     go [] none zero n e = h n e
     go [] none (suc p) n e = nothing_there n e
     go (x ∷ xs) none zero n e = none 0 n e

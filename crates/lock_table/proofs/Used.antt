@@ -42,9 +42,12 @@ none_of a b c d h = grind (arith, nat_tests)
 -- what no level uses is free at each level
 pub free_levels : (h : Holds) → is_used h ≡ false → (e : ℕ) → held_by h e ≡ Held.Free
 free_levels h is zero = not_held (held_by h 0) (none_of (holding h 0) (holding h 1) (holding h 2) (holding h 3) is).0
-free_levels h is (suc zero) = not_held (held_by h 1) (none_of (holding h 0) (holding h 1) (holding h 2) (holding h 3) is).1
-free_levels h is (suc (suc zero)) = not_held (held_by h 2) (none_of (holding h 0) (holding h 1) (holding h 2) (holding h 3) is).2
-free_levels h is (suc (suc (suc zero))) = not_held (held_by h 3) (none_of (holding h 0) (holding h 1) (holding h 2) (holding h 3) is).3
+free_levels h is (suc zero) =
+    not_held (held_by h 1) (none_of (holding h 0) (holding h 1) (holding h 2) (holding h 3) is).1
+free_levels h is (suc (suc zero)) =
+    not_held (held_by h 2) (none_of (holding h 0) (holding h 1) (holding h 2) (holding h 3) is).2
+free_levels h is (suc (suc (suc zero))) =
+    not_held (held_by h 3) (none_of (holding h 0) (holding h 1) (holding h 2) (holding h 3) is).3
 free_levels h is (suc (suc (suc (suc e)))) =
     let le : 4 ≤ suc (suc (suc (suc e))) = omega arith in
     rw (far h.exclusive (suc (suc (suc (suc e)))) le) (rw (far h.shared (suc (suc (suc (suc e)))) le) refl)
@@ -70,11 +73,21 @@ fourth_of : (a b c d : Bool) → d ≡ true → (a || b || c || d) ≡ true
 fourth_of a b c d h = grind (arith, nat_tests)
 
 -- a touched object is used
-pub touch-used : (a b : Holds) (d : ℕ) (mode : Mode) → d < 4 → ((e : ℕ) → held_by b e ≡ at d (stronger (held_by a d) (held_as mode)) (held_by a) e) → is_used b ≡ true
-touch-used a b zero mode lt h = first_of (holding b 0) (holding b 1) (holding b 2) (holding b 3) (ap is_held (h 0) ∙ touched_held (held_by a 0) mode)
-touch-used a b (suc zero) mode lt h = second_of (holding b 0) (holding b 1) (holding b 2) (holding b 3) (ap is_held (h 1) ∙ touched_held (held_by a 1) mode)
-touch-used a b (suc (suc zero)) mode lt h = third_of (holding b 0) (holding b 1) (holding b 2) (holding b 3) (ap is_held (h 2) ∙ touched_held (held_by a 2) mode)
-touch-used a b (suc (suc (suc zero))) mode lt h = fourth_of (holding b 0) (holding b 1) (holding b 2) (holding b 3) (ap is_held (h 3) ∙ touched_held (held_by a 3) mode)
+pub touch-used : (a b : Holds) (d : ℕ) (mode : Mode) → d < 4 →
+    ((e : ℕ) → held_by b e ≡ at d (stronger (held_by a d) (held_as mode)) (held_by a) e) →
+    is_used b ≡ true
+touch-used a b zero mode lt h =
+    first_of (holding b 0) (holding b 1) (holding b 2) (holding b 3)
+    (ap is_held (h 0) ∙ touched_held (held_by a 0) mode)
+touch-used a b (suc zero) mode lt h =
+    second_of (holding b 0) (holding b 1) (holding b 2) (holding b 3)
+    (ap is_held (h 1) ∙ touched_held (held_by a 1) mode)
+touch-used a b (suc (suc zero)) mode lt h =
+    third_of (holding b 0) (holding b 1) (holding b 2) (holding b 3)
+    (ap is_held (h 2) ∙ touched_held (held_by a 2) mode)
+touch-used a b (suc (suc (suc zero))) mode lt h =
+    fourth_of (holding b 0) (holding b 1) (holding b 2) (holding b 3)
+    (ap is_held (h 3) ∙ touched_held (held_by a 3) mode)
 touch-used a b (suc (suc (suc (suc d)))) mode lt h = absurd (omega (arith, lt))
 
 -- what goes one level outward is used as before
@@ -90,14 +103,21 @@ moved_3 a b c d = grind (arith, nat_tests)
 four : {w x y z w' x' y' z' : Bool} → w ≡ w' → x ≡ x' → y ≡ y' → z ≡ z' → (w || x || y || z) ≡ (w' || x' || y' || z')
 four h i j k = cc
 
-pub merge-used : (a b : Holds) (d : ℕ) → 0 < d → d < 4 → ((e : ℕ) → held_by b e ≡ merged d (held_by a) e) → is_used b ≡ is_used a
+pub merge-used : (a b : Holds) (d : ℕ) → 0 < d → d < 4 →
+    ((e : ℕ) → held_by b e ≡ merged d (held_by a) e) → is_used b ≡ is_used a
 merge-used a b zero inner lt h = absurd (omega (arith, inner))
 merge-used a b (suc zero) inner lt h =
-    four (ap is_held (h 0) ∙ held-stronger (held_by a 1) (held_by a 0)) (ap is_held (h 1)) (ap is_held (h 2)) (ap is_held (h 3)) ∙ moved_1 (holding a 0) (holding a 1) (holding a 2) (holding a 3)
+    four (ap is_held (h 0) ∙ held-stronger (held_by a 1) (held_by a 0))
+    (ap is_held (h 1)) (ap is_held (h 2)) (ap is_held (h 3))
+    ∙ moved_1 (holding a 0) (holding a 1) (holding a 2) (holding a 3)
 merge-used a b (suc (suc zero)) inner lt h =
-    four (ap is_held (h 0)) (ap is_held (h 1) ∙ held-stronger (held_by a 2) (held_by a 1)) (ap is_held (h 2)) (ap is_held (h 3)) ∙ moved_2 (holding a 0) (holding a 1) (holding a 2) (holding a 3)
+    four (ap is_held (h 0)) (ap is_held (h 1)
+    ∙ held-stronger (held_by a 2) (held_by a 1)) (ap is_held (h 2)) (ap is_held (h 3))
+    ∙ moved_2 (holding a 0) (holding a 1) (holding a 2) (holding a 3)
 merge-used a b (suc (suc (suc zero))) inner lt h =
-    four (ap is_held (h 0)) (ap is_held (h 1)) (ap is_held (h 2) ∙ held-stronger (held_by a 3) (held_by a 2)) (ap is_held (h 3)) ∙ moved_3 (holding a 0) (holding a 1) (holding a 2) (holding a 3)
+    four (ap is_held (h 0)) (ap is_held (h 1)) (ap is_held (h 2)
+    ∙ held-stronger (held_by a 3) (held_by a 2)) (ap is_held (h 3))
+    ∙ moved_3 (holding a 0) (holding a 1) (holding a 2) (holding a 3)
 merge-used a b (suc (suc (suc (suc d)))) inner lt h = absurd (omega (arith, lt))
 
 -- what was free at each level is so after a merge or a release
@@ -108,5 +128,6 @@ pub release-free : (d : ℕ) (h : ℕ → Held) → ((e : ℕ) → h e ≡ Held.
 release-free d h free e = rw (free e) (grind (arith, nat_tests))
 
 -- what no level used isn't used after a release
-pub release-unused : (a b : Holds) (d : ℕ) → ((e : ℕ) → held_by b e ≡ released d (held_by a) e) → is_used a ≡ false → is_used b ≡ false
+pub release-unused : (a b : Holds) (d : ℕ) → ((e : ℕ) → held_by b e ≡ released d (held_by a) e) →
+    is_used a ≡ false → is_used b ≡ false
 release-unused a b d h is = unused b (λ e. h e ∙ release-free d (held_by a) (free_levels a is) e)

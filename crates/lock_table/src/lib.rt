@@ -12,8 +12,6 @@ mod process_masks;
 mod rows;
 mod table;
 mod taking;
-#[cfg(test)]
-mod tests;
 
 pub use holder::Holder;
 pub use kernel_model::{Mode, NoMemory, Object};

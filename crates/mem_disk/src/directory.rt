@@ -4,14 +4,14 @@ ghost use Rattle.std.specs.Prelude.{◌≡◌, ℕ, true, ◌≤◌, ◌==◌, �
 ghost use Rattle.std.specs.Prelude.{slice_range, slice_index_or, None, Some, IsSome, IfSome, ◌&&◌};
 ghost use Rattle.std.specs.Prelude.{cond, take_while};
 ghost use Rattle.std.specs.List.{list_any, list_all, prefix_len};
-ghost use Rattle.kernel_model.specs.declared.FileRow.{FileRow as Row};
-ghost use Rattle.kernel_model.specs.Bytes.{is_name_byte, word_at};
-ghost use Rattle.kernel_model.specs.World.{entry_named};
-ghost use Rattle.kernel_model.specs.Directory.{entries, entry_row, has_name, is_padded};
-ghost use Rattle.kernel_model.specs.Directory.{lies_on_disk, is_usable, directory_of, usable_count};
+ghost use Rattle.kernel_data.specs.declared.FileRow.{FileRow as Row};
+ghost use Rattle.kernel_data.specs.Bytes.{is_name_byte, word_at};
+ghost use Rattle.kernel_data.specs.World.{entry_named};
+ghost use Rattle.kernel_data.specs.Directory.{entries, entry_row, has_name, is_padded};
+ghost use Rattle.kernel_data.specs.Directory.{lies_on_disk, is_usable, directory_of, usable_count};
 
 use arrayvec::ArrayVec;
-use kernel_model::{BLOCK_BYTES, FileRow, Name};
+use kernel_data::{BLOCK_BYTES, FileRow, Name};
 use std::marker::Model;
 
 /// The entries of a directory.
@@ -38,7 +38,7 @@ pub struct Directory {
 
 impl Model for Directory {
     ghost use Rattle.std.specs.Prelude.{◌≤◌, List, Option, length};
-    ghost use Rattle.kernel_model.specs.declared.FileRow.{FileRow};
+    ghost use Rattle.kernel_data.specs.declared.FileRow.{FileRow};
 
     ghost Value = { List (Option FileRow) };
 
@@ -139,7 +139,7 @@ fn read_entry(entry: &[u8], size: u32, earlier: &[Option<FileRow>]) -> Option<Fi
 }
 
 /// Whether an entry after these is usable, which says what is in the row.
-#[tactic(auto, unfolding(kernel_model::specs::Directory::is_usable))]
+#[tactic(auto, unfolding(kernel_data::specs::Directory::is_usable))]
 fn usable_after(row: &FileRow, entry: &[u8], size: u32, earlier: &[Option<FileRow>]) -> bool
     requires entry { length entry.now ≡ 32 }
     requires name { length row.now.name ≤ 16 }
@@ -150,7 +150,7 @@ fn usable_after(row: &FileRow, entry: &[u8], size: u32, earlier: &[Option<FileRo
 }
 
 /// What an entry says.
-#[tactic(auto, unfolding(kernel_model::specs::Directory::entry_row))]
+#[tactic(auto, unfolding(kernel_data::specs::Directory::entry_row))]
 fn row_of(entry: &[u8]) -> FileRow
     requires { length entry.now ≡ 32 }
     ensures value { result ≡ entry_row entry.now }

@@ -9,7 +9,7 @@ ghost use Rattle.vino_base.specs.Faults.{HasCause, counted};
 ghost use Rattle.vino_base.specs.Calls.{Plan, after_call, call_fails};
 ghost use Rattle.mem_disk.specs.DiskState.{blocks_of, disk_after, disk_seen, last_block};
 
-use kernel_model::BLOCK_BYTES;
+use kernel_data::BLOCK_BYTES;
 use std::marker::Model;
 use vino_base::{CallPlan, Disk, Failed};
 

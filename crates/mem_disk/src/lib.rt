@@ -3,10 +3,10 @@
 
 mod directory;
 mod disk;
+mod log;
 mod sample;
 
 pub use directory::{Directory, read_directory};
 pub use disk::MemDisk;
-
-#[cfg(test)]
-mod tests;
+pub use log::{CALLS, DiskLog};
+pub use vino_base::{Disk, Failed, MemSink, MemSource, Sink, Source};

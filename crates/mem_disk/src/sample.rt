@@ -3,13 +3,13 @@
 ghost use Rattle.std.specs.Prelude.{◌≡◌, ℕ, ◌+◌, ◌-◌, ◌*◌, ◌<◌, ◌≤◌, ◌++◌, IfOk, length, map, replicate, vec_len};
 ghost use Rattle.std.specs.List.{range_with_len};
 ghost use Rattle.std.specs.Result.{OnOk};
-ghost use Rattle.kernel_model.specs.Bytes.{word_bytes};
-ghost use Rattle.kernel_model.specs.Directory.{sample_entry, sample_directory, sample_byte};
-ghost use Rattle.kernel_model.specs.Directory.{sample_block, sample_disk, blocks_of_disk};
+ghost use Rattle.kernel_data.specs.Bytes.{word_bytes};
+ghost use Rattle.kernel_data.specs.Directory.{sample_entry, sample_directory, sample_byte};
+ghost use Rattle.kernel_data.specs.Directory.{sample_block, sample_disk, blocks_of_disk};
 ghost use Rattle.mem_disk.specs.DiskState.{blocks_in};
 
 use crate::disk::MemDisk;
-use kernel_model::{BLOCK_BYTES, NoMemory};
+use kernel_data::{BLOCK_BYTES, NoMemory};
 use std::alloc::{AllocError, Global};
 
 /// The blocks of the sample disk.
@@ -74,7 +74,7 @@ fn fill_block(block: &mut [u8], b: u32)
 }
 
 /// Appends block 0 of the sample disk.
-#[tactic(auto, unfolding(kernel_model::specs::Directory::sample_directory))]
+#[tactic(auto, unfolding(kernel_data::specs::Directory::sample_directory))]
 fn append_directory(bytes: &mut Vec<u8>) -> Result<(), AllocError>
     ensures { OnOk result (bytes.new.items ≡ bytes.old.items ++ sample_directory) }
 {

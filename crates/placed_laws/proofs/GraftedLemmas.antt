@@ -27,8 +27,8 @@ use Rattle.graft_laws.proofs.AlikeHistoryLemmas.{marks_hold}
 use Rattle.graft_laws.proofs.GraftEndLemmas.{in_graft}
 use Rattle.graft_laws.proofs.StepCommitLemmas.{trace_is, config_is}
 use Rattle.graft_laws.proofs.StabilityLemmas.{HasGraft, has_graft}
-use Rattle.history_laws.proofs.RecordLemmas.{FoundByUndoing}
-use Rattle.history_laws.proofs.InPlaceLemmas.{call_undoable}
+use Rattle.graft_laws.proofs.RecordLemmas.{FoundByUndoing}
+use Rattle.graft_laws.proofs.InPlaceLemmas.{call_undoable}
 
 -- a process's call in a graft, with this config
 pub record Grafted (m : Meaning) (k : Kernel) (p : ℕ) (c : Config) : Type 0 where
@@ -39,18 +39,29 @@ pub record Grafted (m : Meaning) (k : Kernel) (p : ℕ) (c : Config) : Type 0 wh
   pub works : WorksOn k.world k.objects point c
   pub replayed : IsReplayed k.world k.objects c
   -- what the piece needs the call holds
-  pub base : (o : Object) → is_needed_exclusively o (m.need k.world k.objects p has.call.stage) ≡ true → is_changed_in c.levels o ≡ true
-  pub needed : (o : Object) → is_needed o (m.need k.world k.objects p has.call.stage) ≡ true → is_held_in c.levels o ≡ true
+  pub base : (o : Object) →
+      is_needed_exclusively o (m.need k.world k.objects p has.call.stage) ≡ true →
+      is_changed_in c.levels o ≡ true
+  pub needed : (o : Object) → is_needed o (m.need k.world k.objects p has.call.stage) ≡ true →
+      is_held_in c.levels o ≡ true
   pub answer : AnswerIsHeld c.levels
   pub undoable : FoundByUndoing c.now.things c.levels
   pub low : p < 16
 
 -- a call of a sound kernel stands
-pub call_stands : (m : Meaning) (k : Kernel) (p : ℕ) (c : Call) → IsSoundKernel m k → k.call p ≡ Some c → IsStanding m k.world k.images k.objects p c.stage
-call_stands m k p c sound e = record { store = sound.state.store; caller = sound.callers p c e; granted = sound.granted p c e; fits = sound.fit p c e }
+pub call_stands : (m : Meaning) (k : Kernel) (p : ℕ) (c : Call) → IsSoundKernel m k →
+    k.call p ≡ Some c → IsStanding m k.world k.images k.objects p c.stage
+call_stands m k p c sound e =
+    record {
+      store = sound.state.store;
+      caller = sound.callers p c e;
+      granted = sound.granted p c e;
+      fits = sound.fit p c e;
+    }
 
 -- what a piece needs its call holds, wherever the history leads
-pub needs_held : (m : Meaning) (v : World) (images : ImageTable) (s : Objects) (p : ℕ) (t : Stage) (ks : List Mark) (now : Trace) (o : Object) → replay m v images s p t ks ≡ Some now →
+pub needs_held : (m : Meaning) (v : World) (images : ImageTable) (s : Objects) (p : ℕ) (t : Stage)
+    (ks : List Mark) (now : Trace) (o : Object) → replay m v images s p t ks ≡ Some now →
     is_needed o (m.need v s p t) ≡ true → is_held_in now.config.levels o ≡ true
 needs_held m v images s p t ks now o e need =
     let f = replay_split m v images s p t ks now e in
@@ -59,12 +70,17 @@ needs_held m v images s p t ks now o e need =
     is_it : (c d : Config) → Some c ≡ Some d → c ≡ d
     is_it c d h = cc
 
-    by_asks : (x : Option Point) (c : Config) → begin_with images s p (m.need v s p t) (m.feed t) x ≡ Some c → marks_on v images p ks (first_trace c) ≡ Some now → is_held_in now.config.levels o ≡ true
+    by_asks : (x : Option Point) (c : Config) →
+        begin_with images s p (m.need v s p t) (m.feed t) x ≡ Some c →
+        marks_on v images p ks (first_trace c) ≡ Some now → is_held_in now.config.levels o ≡ true
     by_asks None c h marks = absurd cc
     by_asks (Some a) c h marks =
         let begun = begin_at images s p (m.need v s p t) (m.feed t) a in
-        marks_hold v images p ks (first_trace begun) now o (subst (λ (x : Config). marks_on v images p ks (first_trace x) ≡ Some now) (sym (is_it begun c h)) marks)
-        (or_left (is_held (touch_all (m.need v s p t) untouched o)) false (touch_all_gives (m.need v s p t) untouched o need))
+        marks_hold v images p ks (first_trace begun) now o
+        (subst (λ (x : Config). marks_on v images p ks (first_trace x) ≡ Some now)
+        (sym (is_it begun c h)) marks)
+        (or_left (is_held (touch_all (m.need v s p t) untouched o)) false
+        (touch_all_gives (m.need v s p t) untouched o need))
 
 module _ (m : Meaning) (laws : Laws m) (k : Kernel) (sound : IsSoundKernel m k) where
   pub grafted : (p : ℕ) (c : Config) → config_of m k p ≡ Some c → Grafted m k p c
@@ -83,8 +99,12 @@ module _ (m : Meaning) (laws : Laws m) (k : Kernel) (sound : IsSoundKernel m k) 
         works = subst (WorksOn k.world k.objects i.point) g.config i.works;
         replayed = subst (IsReplayed k.world k.objects) g.config i.replayed;
         base = λ o need. subst (λ (x : Config). is_changed_in x.levels o ≡ true) g.config (i.base o need);
-        needed = λ o need. subst (λ (x : Config). is_held_in x.levels o ≡ true) g.config (needs_held m k.world k.images k.objects p g.call.stage g.marks g.trace o leads need);
-        answer = subst (λ (x : Config). AnswerIsHeld x.levels) g.config (histories_hold_answers m k.world k.images k.objects p g.call.stage g.marks g.trace laws standing leads);
+        needed =
+            λ o need. subst (λ (x : Config). is_held_in x.levels o ≡ true) g.config
+            (needs_held m k.world k.images k.objects p g.call.stage g.marks g.trace o leads need);
+        answer =
+            subst (λ (x : Config). AnswerIsHeld x.levels) g.config (histories_hold_answers m k.world
+            k.images k.objects p g.call.stage g.marks g.trace laws standing leads);
         undoable = (call_undoable m k sound laws inverses_undo changes_are_of_one_object p c is).found;
         low = sound.state.store.numbers p standing.caller;
       }

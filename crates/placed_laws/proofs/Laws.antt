@@ -2,7 +2,8 @@
 use Rattle.kernel_model.specs.Meaning.{Meaning}
 use Rattle.kernel_model.specs.Laws.{Laws}
 use Rattle.placed_laws.specs.Agreeing.{SameStages, SameBlockers, SameShown}
-use Rattle.placed_laws.specs.Keeping.{QuietKernelsStand, StepsStand, DropsStand, OthersStand, EventsStand, HeldStays, ImagesKeepRest}
+use Rattle.placed_laws.specs.Keeping.{QuietKernelsStand, StepsStand, DropsStand, OthersStand}
+use Rattle.placed_laws.specs.Keeping.{EventsStand, HeldStays, ImagesKeepRest}
 use Rattle.placed_laws.specs.Owners.{OwnersStay}
 use Rattle.placed_laws.specs.Resting.{Resting}
 use Rattle.placed_laws.specs.Soundness.{SoundInPlace, ReadyInPlace}

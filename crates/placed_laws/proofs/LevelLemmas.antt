@@ -34,12 +34,14 @@ laid_recorded w (l ∷ ls) h =
     (λ i among. laid_changed w (l ∷ ls) (changed_by i) ∙ h.0 i among, laid_recorded (undo_all l.records w) ls h.1)
 
 -- and answer the same
-pub answer_laid : (answer : List ℕ) (w : Things) (ls : List Level) → answer_of answer (relaid w ls) ≡ answer_of answer ls
+pub answer_laid : (answer : List ℕ) (w : Things) (ls : List Level) →
+    answer_of answer (relaid w ls) ≡ answer_of answer ls
 answer_laid answer w [] = refl
 answer_laid answer w (l ∷ ls) = refl
 
 -- what each found is what undoing gives
-pub laid_kept : (w : Things) (ls : List PlacedLevel) → found_by (levels_with w ls) ≡ kept_by_log w (undo_log (levels_with w ls))
+pub laid_kept : (w : Things) (ls : List PlacedLevel) →
+    found_by (levels_with w ls) ≡ kept_by_log w (undo_log (levels_with w ls))
 laid_kept w [] = refl
 laid_kept w (l ∷ ls) = ap (λ ws. undo_all l.records w ∷ ws) (laid_kept (undo_all l.records w) ls)
 
@@ -52,26 +54,12 @@ pub bare_alike : (ls ks : List Level) → LevelsAlike ls ks → map bare ls ≡ 
 bare_alike [] [] h = refl
 bare_alike [] (k ∷ ks) h = absurd h
 bare_alike (l ∷ ls) [] h = absurd h
-bare_alike (l ∷ ls) (k ∷ ks) h = ap (λ (x : Level). bare x ∷ map bare ls) h.0 ∙ ap (λ xs. bare k ∷ xs) (bare_alike ls ks h.1)
-
--- the same the other way round, for what is of levels without what they found
-pub alike_back : (ls ks : List Level) → LevelsAlike ls ks → LevelsAlike ks ls
-alike_back [] [] h = tt
-alike_back [] (k ∷ ks) h = absurd h
-alike_back (l ∷ ls) [] h = absurd h
-alike_back (l ∷ ls) (k ∷ ks) h = (ap (λ (x : Level). record x { kept = l.kept }) (sym h.0), alike_back ls ks h.1)
-
-pub alike_then : (ls ks js : List Level) → LevelsAlike ls ks → LevelsAlike ks js → LevelsAlike ls js
-alike_then [] [] [] h i = tt
-alike_then [] [] (j ∷ js) h i = absurd i
-alike_then [] (k ∷ ks) js h i = absurd h
-alike_then (l ∷ ls) [] js h i = absurd h
-alike_then (l ∷ ls) (k ∷ ks) [] h i = absurd i
-alike_then (l ∷ ls) (k ∷ ks) (j ∷ js) h i =
-    (ap (λ (x : Level). record x { kept = j.kept }) h.0 ∙ i.0, alike_then ls ks js h.1 i.1)
+bare_alike (l ∷ ls) (k ∷ ks) h =
+    ap (λ (x : Level). bare x ∷ map bare ls) h.0 ∙ ap (λ xs. bare k ∷ xs) (bare_alike ls ks h.1)
 
 -- levels laid over a store are alike to any that are the same without what they found
-pub laid_alike : (w : Things) (bs : List PlacedLevel) (ls : List Level) → bs ≡ map bare ls → LevelsAlike ls (levels_with w bs)
+pub laid_alike : (w : Things) (bs : List PlacedLevel) (ls : List Level) → bs ≡ map bare ls →
+    LevelsAlike ls (levels_with w bs)
 laid_alike w bs ls e = subst (λ xs. LevelsAlike ls (levels_with w xs)) (sym e) (relaid_alike w ls)
 
 pub length_bare : (ls : List Level) → length (map bare ls) ≡ length ls

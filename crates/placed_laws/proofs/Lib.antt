@@ -1,3 +1,4 @@
+pub use Rattle.graft_laws.proofs.HistoryLaws
 mod NeededPremises
 pub mod LevelLemmas
 pub mod OwnerLemmas
@@ -38,3 +39,8 @@ pub mod StretchReading
 pub mod StretchInstructions
 pub mod StretchIterating
 pub mod Laws
+pub mod InPlaceLemmas
+pub mod DropLemmas
+pub mod BeginLemmas
+pub mod CommittedLemmas
+pub mod UndoLaws

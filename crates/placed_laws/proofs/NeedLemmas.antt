@@ -5,7 +5,8 @@ use Rattle.kernel_model.specs.declared.Need.{Need}
 use Rattle.kernel_model.specs.declared.Object.{Object}
 use Rattle.kernel_model.specs.Objects.{same_object}
 use Rattle.kernel_model.specs.Alike.{is_exclusive, is_needed, is_needed_exclusively}
-use Rattle.graft_laws.proofs.PointLemmas.{or_cases, or_left, or_right}
+use Rattle.graft_laws.proofs.PointLemmas.{or_left, or_right}
+use Rattle.call_laws.specs.NeedGrafts.{or_cases}
 
 -- what is needed among the first is needed
 pub first_needed : (o : Object) (xs ys : List Need) → is_needed o xs ≡ true → is_needed o (xs ++ ys) ≡ true
@@ -15,12 +16,15 @@ first_needed o (n ∷ xs) ys h = elim (or_cases (same_object o n.object) (is_nee
   | inr later ↦ or_right (same_object o n.object) (is_needed o (xs ++ ys)) (first_needed o xs ys later)
 ]
 
-pub first_taken : (o : Object) (xs ys : List Need) → is_needed_exclusively o xs ≡ true → is_needed_exclusively o (xs ++ ys) ≡ true
+pub first_taken : (o : Object) (xs ys : List Need) → is_needed_exclusively o xs ≡ true →
+    is_needed_exclusively o (xs ++ ys) ≡ true
 first_taken o [] ys h = absurd cc
-first_taken o (n ∷ xs) ys h = elim (or_cases (is_exclusive n.mode && same_object o n.object) (is_needed_exclusively o xs) h) [
-  | inl here ↦ or_left (is_exclusive n.mode && same_object o n.object) (is_needed_exclusively o (xs ++ ys)) here
-  | inr later ↦ or_right (is_exclusive n.mode && same_object o n.object) (is_needed_exclusively o (xs ++ ys)) (first_taken o xs ys later)
-]
+first_taken o (n ∷ xs) ys h =
+    elim (or_cases (is_exclusive n.mode && same_object o n.object) (is_needed_exclusively o xs) h) [
+      | inl here ↦ or_left (is_exclusive n.mode && same_object o n.object) (is_needed_exclusively o (xs ++ ys)) here
+      | inr later ↦ or_right (is_exclusive n.mode && same_object o n.object)
+          (is_needed_exclusively o (xs ++ ys)) (first_taken o xs ys later)
+    ]
 
 -- what is needed among the first few is needed
 pub taken_among : (i : ℕ) (ns : List Need) (o : Object) → is_needed o (take i ns) ≡ true → is_needed o ns ≡ true
@@ -31,27 +35,13 @@ taken_among (suc i) (n ∷ ns) o h = elim (or_cases (same_object o n.object) (is
   | inr later ↦ or_right (same_object o n.object) (is_needed o ns) (taken_among i ns o later)
 ]
 
--- lists of which all beginnings are the same
-pub all_same : (xs ys : List Need) → ((i : ℕ) → take (suc i) xs ≡ take (suc i) ys) → xs ≡ ys
-all_same [] [] h = refl
-all_same [] (y ∷ ys) h = absurd (none_some (h 0))
-  where
-    none_some : take 1 [] ≡ take 1 (y ∷ ys) → ⊥
-    none_some e = cc
-all_same (x ∷ xs) [] h = absurd (none_some (h 0))
-  where
-    none_some : take 1 (x ∷ xs) ≡ take 1 [] → ⊥
-    none_some e = cc
-all_same (x ∷ xs) (y ∷ ys) h =
-    ap (λ (n : Need). n ∷ xs) (ap (λ (zs : List Need). elim zs as (λ _. Need) [ [] ↦ x | z ∷ rest ↦ z ]) (h 0))
-    ∙ ap (λ ns. y ∷ ns) (all_same xs ys (λ i. ap (λ (zs : List Need). elim zs as (λ _. List Need) [ [] ↦ [] | z ∷ rest ↦ rest ]) (h (suc i))))
-
 -- what isn't needed isn't needed exclusively
 pub unneeded_free : (o : Object) (ns : List Need) → is_needed o ns ≡ false → is_needed_exclusively o ns ≡ false
 unneeded_free o [] h = refl
 unneeded_free o (n ∷ ns) h =
     let both = neither (same_object o n.object) (is_needed o ns) h in
-    ap (λ b. is_exclusive n.mode && b || is_needed_exclusively o ns) both.0 ∙ none_by (is_exclusive n.mode) (is_needed_exclusively o ns) (unneeded_free o ns both.1)
+    ap (λ b. is_exclusive n.mode && b || is_needed_exclusively o ns) both.0
+    ∙ none_by (is_exclusive n.mode) (is_needed_exclusively o ns) (unneeded_free o ns both.1)
   where
     neither : (a b : Bool) → (a || b) ≡ false → (a ≡ false) × (b ≡ false)
     neither true b h = absurd cc

@@ -25,7 +25,7 @@ use Rattle.kernel_model.specs.Settle.{step}
 use Rattle.kernel_model.specs.Events.{drop_call}
 use Rattle.kernel_model.specs.InPlace.{in_place}
 use Rattle.kernel_model.specs.Opening.{opening_accounts, opening_things}
-use Rattle.kernel_model.specs.Pieces.{plain}
+use Rattle.kernel_model.specs.Pieces.{plain_calls}
 use Rattle.placed_laws.specs.Placed.{PlacedRun, has_some, placed_holds}
 use Rattle.placed_laws.specs.PlacedSteps.{placed_step, placed_drop}
 use Rattle.placed_laws.specs.Owners.{AreOfOwner}
@@ -48,7 +48,9 @@ abbrev one_graft : Objects
 one_graft =
     record {
       accounts = record (opening_accounts 10) {
-        graft = λ q pt. cond (q == 1 && pt == 5) (Some (record { image = 0; limit = 9; billed = false; balance = λ k. 9 })) None;
+        graft =
+            λ q pt. cond (q == 1 && pt == 5)
+            (Some (record { image = 0; limit = 9; billed = false; balance = λ k. 9 })) None;
       };
       things = record opening_things { queue = row 1 ∷ row 0 ∷ [] };
     }
@@ -92,12 +94,13 @@ reads_beside =
 
 -- the same in place
 abbrev in_one_store : Run → PlacedRun
-in_one_store r = run_over plain (in_place plain r.kernel) r
+in_one_store r = run_over plain_calls (in_place plain_calls r.kernel) r
 
--- the reader is blocked; a step of it would tell the abstract kernel the committed number, and the kernel in place the other one's
+-- the reader is blocked; a step of it would tell the abstract kernel the committed number, and the
+-- kernel in place the other one's
 blocked_reader_differs :
-    ((step plain 1 reads_beside).notes ≡ Ended 2 (Reply.One 0) ∷ [])
-    × ((placed_step plain 1 (in_one_store reads_beside)).notes ≡ Ended 2 (Reply.One 20) ∷ [])
+    ((step plain_calls 1 reads_beside).notes ≡ Ended 2 (Reply.One 0) ∷ [])
+    × ((placed_step plain_calls 1 (in_one_store reads_beside)).notes ≡ Ended 2 (Reply.One 20) ∷ [])
 unfolding same_object
 blocked_reader_differs = (refl, refl)
 
@@ -106,7 +109,10 @@ abbrev writes_beside : Run
 writes_beside =
     record reads_beside {
       kernel = record (reads_beside.kernel) {
-        call = λ p. cond (p == 1) (Some (record { number = 2; stage = stage (Poke 1 7) 0; marks = None })) (reads_beside.kernel.call p);
+        call =
+            λ p.
+            cond (p == 1) (Some (record { number = 2; stage = stage (Poke 1 7) 0; marks = None }))
+            (reads_beside.kernel.call p);
       };
     }
 
@@ -114,14 +120,15 @@ writes_beside =
 blocked_writer_takes :
     (placed_holds (in_one_store writes_beside).placed 0 0 (Cell 1 1) ≡ Held.Exclusive)
     × ((in_one_store writes_beside).placed.objects.things.cell 1 1 ≡ 20)
-    × ((placed_step plain 1 (in_one_store writes_beside)).placed.objects.things.cell 1 1 ≡ 7)
+    × ((placed_step plain_calls 1 (in_one_store writes_beside)).placed.objects.things.cell 1 1 ≡ 7)
 unfolding same_object
 blocked_writer_takes = (refl, refl, refl)
 
 -- the drop of a level that isn't there would take all levels from the kernel in place, and none from the abstract one
 absent_drop_differs :
-    (has_level ((drop_call plain 0 (reads_beside.kernel.call 0) (Some 3) Cause.DivideByZero reads_beside).kernel.call 0) ≡ true)
-    × (has_some ((placed_drop plain 0 3 Cause.DivideByZero (in_one_store reads_beside)).placed.levels 0) ≡ false)
+    (has_level ((drop_call plain_calls 0 (reads_beside.kernel.call 0) (Some 3) Cause.DivideByZero
+    reads_beside).kernel.call 0) ≡ true)
+    × (has_some ((placed_drop plain_calls 0 3 Cause.DivideByZero (in_one_store reads_beside)).placed.levels 0) ≡ false)
 unfolding same_object
 absent_drop_differs = (refl, refl)
 
@@ -146,6 +153,7 @@ waits_in_graft =
     }
 
 -- it rests; with a table that lacks the image, not with more images, the graft would wait for nothing
-lost_image_wakes : (blocker plain waits_in_graft 0 ≡ Some user_lock) × (blocker plain (record waits_in_graft { images = λ slot. None }) 0 ≡ None)
+lost_image_wakes : (blocker plain_calls waits_in_graft 0 ≡ Some user_lock)
+    × (blocker plain_calls (record waits_in_graft { images = λ slot. None }) 0 ≡ None)
 unfolding same_object
 lost_image_wakes = (refl, refl)

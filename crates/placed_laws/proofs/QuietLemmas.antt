@@ -6,7 +6,7 @@ use Rattle.kernel_model.specs.Kernel.{Call}
 use Rattle.kernel_model.specs.Blocking.{config_in, levels_in, trace_of, levels_of}
 use Rattle.kernel_model.specs.InPlace.{in_place, is_changed_in}
 use Rattle.graft_laws.proofs.EffectLemmas.{same_back}
-use Rattle.history_laws.proofs.InPlaceLemmas.{in_place_reads}
+use Rattle.graft_laws.proofs.InPlaceLemmas.{in_place_reads}
 use Rattle.placed_laws.specs.Placed.{bare}
 use Rattle.placed_laws.specs.Stands.{without_history}
 use Rattle.placed_laws.specs.Keeping.{QuietKernelsStand}
@@ -20,7 +20,9 @@ quiet_kernels_stand m k sound none =
       order = refl;
       calls = λ p. ap without_history (sym (none p));
       levels = λ p. ap (map bare) (sym (no_levels p));
-      objects = λ o range. same_back o (in_place m k) k.objects ((in_place_reads m).committed k o (λ q. ap (λ ls. is_changed_in ls o) (no_levels q)));
+      objects =
+          λ o range. same_back o (in_place m k) k.objects
+          ((in_place_reads m).committed k o (λ q. ap (λ ls. is_changed_in ls o) (no_levels q)));
       store = sound.state.store;
       kernel = sound;
     }

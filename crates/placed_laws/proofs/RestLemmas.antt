@@ -1,48 +1,32 @@
 -- A kernel that rests goes on to rest once more images are loaded.
-use Rattle.std.specs.Prelude.{◌≡◌, ℕ, true, cond, List, [], ◌∷◌, map, option_map, replicate, Option, Some, None, is_some}
-use Rattle.std.proofs.Common.{refl, subst, sym, ap, ◌∙◌}
+use Rattle.std.specs.Prelude.{◌≡◌, ℕ, List, [], map, option_map, replicate}
+use Rattle.std.specs.Prelude.{Option, Some, None}
+use Rattle.std.proofs.Common.{refl, subst, ap, ◌∙◌}
 use Rattle.std.proofs.lemmas.List.{length-replicate}
 use mathlib.Core.Path.{fun_ext}
 use Rattle.kernel_model.specs.declared.Need.{Need}
-use Rattle.kernel_model.specs.World.{World, Image, ImageTable, processes}
-use Rattle.kernel_model.specs.Objects.{Accounts, GraftValue}
-use Rattle.kernel_model.specs.Machine.{next_call}
+use Rattle.kernel_model.specs.World.{ImageTable, processes}
 use Rattle.kernel_model.specs.Locks.{LockTable, first_hindrance}
 use Rattle.kernel_model.specs.Meaning.{Meaning}
-use Rattle.kernel_model.specs.Levels.{Level, Config, image_of, code_in}
-use Rattle.kernel_model.specs.GraftStep.{is_spent, instruction_needs, next_needs, lock_user}
+use Rattle.kernel_model.specs.Levels.{Level, Config}
+use Rattle.kernel_model.specs.GraftStep.{lock_user}
 use Rattle.kernel_model.specs.History.{Mark}
 use Rattle.kernel_model.specs.Kernel.{Call, Blocker, Kernel, Run}
-use Rattle.kernel_model.specs.Blocking.{config_of, levels_in, levels_of, locks_from, holds, needs_at, needs_in, needs, blocker_from, blocker}
+use Rattle.kernel_model.specs.Blocking.{config_of, levels_in, levels_of, locks_from, holds}
+use Rattle.kernel_model.specs.Blocking.{needs_at, needs_in, needs, blocker_from, blocker}
 use Rattle.kernel_model.specs.Sound.{IsSoundKernel, ImagesAreLoaded}
 use Rattle.kernel_model.specs.Alike.{Extends}
 use Rattle.kernel_model.specs.Laws.{Laws}
 use Rattle.graft_laws.specs.Kernels.{IsSoundRun}
 use Rattle.graft_laws.proofs.GraftOriginLemmas.{images_from}
 use Rattle.graft_laws.proofs.KernelSoundLemmas.{history_come}
+use Rattle.graft_laws.proofs.LoadedImageLemmas.{next_same}
 use Rattle.graft_laws.proofs.MoreImageLemmas.{images_stay_sound}
 use Rattle.graft_laws.proofs.StabilityLemmas.{has_graft}
 use Rattle.placed_laws.specs.Keeping.{ImagesKeepRest}
 
--- the image of a graft is the same where it is loaded
-image_same : (images more : ImageTable) (a : Accounts) (q pt : ℕ) → Extends images more → ImagesAreLoaded images a → image_of more (a.graft q pt) ≡ image_of images (a.graft q pt)
-image_same images more a q pt extends loaded = by_graft (a.graft q pt) refl
-  where
-    by_image : (slot : ℕ) (y : Option Image) → images slot ≡ y → is_some y ≡ true → more slot ≡ images slot
-    by_image slot None e some = absurd cc
-    by_image slot (Some i) e some = extends slot i e ∙ sym e
-
-    by_graft : (g : Option GraftValue) → a.graft q pt ≡ g → image_of more g ≡ image_of images g
-    by_graft None e = refl
-    by_graft (Some g) e = by_image g.image (images g.image) refl (loaded q pt g e)
-
--- and so is what the next instruction needs
-next_same : (v : World) (images more : ImageTable) (a : Accounts) (ls : List Level) → Extends images more → ImagesAreLoaded images a → next_needs v more a ls ≡ next_needs v images a ls
-next_same v images more a [] extends loaded = refl
-next_same v images more a (l ∷ ls) extends loaded =
-    ap (λ (i : Option Image). cond (is_spent a l) [] (instruction_needs v l (next_call (code_in i) l.machine))) (image_same images more a l.owner l.point extends loaded)
-
-module _ (m : Meaning) (laws : Laws m) (k : Kernel) (sound : IsSoundKernel m k) (more : ImageTable) (extends : Extends k.images more) where
+module _ (m : Meaning) (laws : Laws m) (k : Kernel) (sound : IsSoundKernel m k) (more : ImageTable)
+    (extends : Extends k.images more) where
   -- the kernel with more images
   abbrev grown : Kernel
   grown = record k { images = more }
@@ -61,8 +45,10 @@ module _ (m : Meaning) (laws : Laws m) (k : Kernel) (sound : IsSoundKernel m k) 
   images_known : (p : ℕ) (c : Config) → config_of m k p ≡ Some c → ImagesAreLoaded k.images c.now.accounts
   images_known p c is =
       let h = has_graft m k p c is in
-      let come = history_come m laws laws.need.grafts whole_run p h.call h.marks h.trace sound sound_run.blocks h.is h.marked h.leads in
-      subst (λ (d : Config). ImagesAreLoaded k.images d.now.accounts) h.config (images_from k.images k.objects.accounts h.trace.config.now.accounts come sound.state.images_loaded)
+      let come = history_come m laws laws.need.grafts whole_run p h.call h.marks h.trace sound
+      sound_run.blocks h.is h.marked h.leads in
+      subst (λ (d : Config). ImagesAreLoaded k.images d.now.accounts) h.config (images_from k.images
+      k.objects.accounts h.trace.config.now.accounts come sound.state.images_loaded)
 
   levels_grown : levels_of m grown ≡ levels_of m k
   levels_grown = fun_ext (λ p. ap levels_in (config_grown p))
@@ -78,8 +64,14 @@ module _ (m : Meaning) (laws : Laws m) (k : Kernel) (sound : IsSoundKernel m k) 
       at_config (Some c) e = next_same k.world k.images more c.now.accounts c.levels extends (images_known p c e)
 
       by_marks : (c : Call) (y : Option (List Mark)) →
-          elim y as (λ _. List Need) [ None ↦ m.need k.world k.objects p c.stage | Some ks ↦ needs_at m grown (config_of m grown p) ]
-          ≡ elim y as (λ _. List Need) [ None ↦ m.need k.world k.objects p c.stage | Some ks ↦ needs_at m k (config_of m k p) ]
+          elim y as (λ _. List Need) [
+            | None ↦ m.need k.world k.objects p c.stage
+            | Some ks ↦ needs_at m grown (config_of m grown p)
+          ]
+          ≡ elim y as (λ _. List Need) [
+            | None ↦ m.need k.world k.objects p c.stage
+            | Some ks ↦ needs_at m k (config_of m k p)
+          ]
       by_marks c None = refl
       by_marks c (Some ks) = ap (needs_at m grown) (config_grown p) ∙ at_config (config_of m k p) refl
 

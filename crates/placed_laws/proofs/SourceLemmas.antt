@@ -17,16 +17,23 @@ use Rattle.kernel_model.specs.Alike.{AreAlike, SameFiles, windowless, niceless, 
 use Rattle.kernel_model.specs.Laws.{Laws}
 use Rattle.kernel_laws.proofs.StepLemmas.{niceless_lives, alike_disk, no_file_high, no_file_beyond}
 use Rattle.graft_laws.specs.Histories.{HasRange}
-use Rattle.graft_laws.proofs.EffectLemmas.{same_then, same_back}
+use Rattle.graft_laws.proofs.EffectLemmas.{same_back}
 use Rattle.graft_laws.proofs.HolderLemmas.{apart_unchanged}
-use Rattle.graft_laws.proofs.CommitLemmas.{alike_self}
 use Rattle.graft_laws.proofs.ShapeLemmas.{contrary}
-use Rattle.history_laws.proofs.InPlaceLemmas.{in_place_reads, changer, changer_config, caller_low}
+use Rattle.graft_laws.proofs.InPlaceLemmas.{in_place_reads, changer, changer_config, caller_low}
 use Rattle.placed_laws.proofs.GraftedLemmas.{grafted}
+use Rattle.kernel_laws.proofs.SettleLemmas.{alike_self}
+use Rattle.kernel_laws.proofs.FrameLemmas.{same_then}
 
 -- a state with another's policies out of range
 abbrev pub shown : Objects → Objects → Objects
-shown s w = record w { things = record (w.things) { pol = λ kind. cond (nat_lt kind 3) (w.things.pol kind) (s.things.pol kind) } }
+shown s w =
+    record w {
+      things = record (w.things) {
+        pol = λ kind. cond (nat_lt kind 3) (w.things.pol kind)
+            (s.things.pol kind);
+      };
+    }
 
 -- a sound state that is alike to the committed one has the same value of an object
 pub record From (m : Meaning) (k : Kernel) (x : Objects) (o : Object) : Type 0 where
@@ -51,12 +58,18 @@ module _ (m : Meaning) (laws : Laws m) (k : Kernel) (x : Objects) (here : IsPlac
   -- ---- one object
 
   -- what a call holds exclusively
-  pub own : (p : ℕ) (c : Config) (o : Object) → config_of m k p ≡ Some c → HasRange o → is_changed_in c.levels o ≡ true → SameAt o x c.now
-  own p c o is range changed = same_then o x (in_place m k) c.now (here.objects o range) ((in_place_reads m).own k p c o here.kernel is changed)
+  pub own : (p : ℕ) (c : Config) (o : Object) → config_of m k p ≡ Some c → HasRange o →
+      is_changed_in c.levels o ≡ true → SameAt o x c.now
+  own p c o is range changed =
+      same_then o x (in_place m k) c.now (here.objects o range)
+      ((in_place_reads m).own k p c o here.kernel is changed)
 
   -- what none holds exclusively
-  pub committed : (o : Object) → HasRange o → ((q : ℕ) → is_changed_in (levels_of m k q) o ≡ false) → SameAt o x k.objects
-  committed o range none = same_then o x (in_place m k) k.objects (here.objects o range) ((in_place_reads m).committed k o none)
+  pub committed : (o : Object) → HasRange o →
+      ((q : ℕ) → is_changed_in (levels_of m k q) o ≡ false) → SameAt o x k.objects
+  committed o range none =
+      same_then o x (in_place m k) k.objects (here.objects o range)
+      ((in_place_reads m).committed k o none)
 
   pub from : (o : Object) → HasRange o → From m k x o
   from o range = elim (changer m k here.kernel o) [
@@ -64,20 +77,28 @@ module _ (m : Meaning) (laws : Laws m) (k : Kernel) (x : Objects) (here : IsPlac
         let f = changer_config m k here.kernel found.0 o found.1 in
         let work = (grafted m laws k here.kernel found.0 f.0 f.1).works.works.1.0 in
         record { state = f.0.now; store = work.store; alike = work.alike; same = own found.0 f.0 o f.1 range f.2 }
-    | inr none ↦ record { state = k.objects; store = here.kernel.state.store; alike = alike_self k.objects; same = committed o range none }
+    | inr none ↦ record {
+      state = k.objects;
+      store = here.kernel.state.store;
+      alike = alike_self k.objects;
+      same = committed o range none;
+    }
   ]
 
   -- who holds an object keeps the others from holding it exclusively
-  pub others_free : (p : ℕ) (c : Config) (o : Object) → config_of m k p ≡ Some c → is_held_in c.levels o ≡ true → (q : ℕ) → q ≢ p → is_changed_in (levels_of m k q) o ≡ false
+  pub others_free : (p : ℕ) (c : Config) (o : Object) → config_of m k p ≡ Some c →
+      is_held_in c.levels o ≡ true → (q : ℕ) → q ≢ p → is_changed_in (levels_of m k q) o ≡ false
   others_free p c o is held q ne = elim (cases_Bool (is_changed_in (levels_of m k q) o)) [
     | inr none ↦ none
     | inl some ↦
         let f = changer_config m k here.kernel q o some in
-        apart_unchanged m k p q o here.kernel (λ e. ne (sym e)) (caller_low m k here.kernel p c is) (caller_low m k here.kernel q f.0 f.1) (ap (λ y. is_held_in (levels_in y) o) is ∙ held)
+        apart_unchanged m k p q o here.kernel (λ e. ne (sym e)) (caller_low m k here.kernel p c is)
+        (caller_low m k here.kernel q f.0 f.1) (ap (λ y. is_held_in (levels_in y) o) is ∙ held)
   ]
 
   -- a call's levels don't hold it exclusively, and no other's do
-  pub none_of : (p : ℕ) (o : Object) → is_changed_in (levels_of m k p) o ≡ false → ((q : ℕ) → q ≢ p → is_changed_in (levels_of m k q) o ≡ false) →
+  pub none_of : (p : ℕ) (o : Object) → is_changed_in (levels_of m k p) o ≡ false →
+      ((q : ℕ) → q ≢ p → is_changed_in (levels_of m k q) o ≡ false) →
       (q : ℕ) → is_changed_in (levels_of m k q) o ≡ false
   none_of p o mine others q = by_number (eq_cases q p)
     where
@@ -89,7 +110,8 @@ module _ (m : Meaning) (laws : Laws m) (k : Kernel) (x : Objects) (here : IsPlac
       by_number (inr ne) = others q ne
 
   -- what a call holds the store has as the call has it
-  pub held_same : (p : ℕ) (c : Config) (o : Object) → config_of m k p ≡ Some c → is_held_in c.levels o ≡ true → SameAt o c.now x
+  pub held_same : (p : ℕ) (c : Config) (o : Object) → config_of m k p ≡ Some c →
+      is_held_in c.levels o ≡ true → SameAt o c.now x
   held_same p c o is held =
       let g = grafted m laws k here.kernel p c is in
       let range = g.replayed.ranges o held in
@@ -97,34 +119,43 @@ module _ (m : Meaning) (laws : Laws m) (k : Kernel) (x : Objects) (here : IsPlac
         | inl changed ↦ same_back o x c.now (own p c o is range changed)
         | inr free ↦
             same_then o c.now k.objects x (g.replayed.now o free)
-            (same_back o x k.objects (committed o range (none_of p o (ap (λ y. is_changed_in (levels_in y) o) is ∙ free) (others_free p c o is held))))
+            (same_back o x k.objects (committed o range (none_of p o
+            (ap (λ y. is_changed_in (levels_in y) o) is ∙ free) (others_free p c o is held))))
       ]
 
   -- ---- the whole store
 
   pub living : (q : ℕ) → lives x.things.queue q ≡ lives k.objects.things.queue q
-  living q = let f = from Queue tt in ap (λ queue. lives queue q) f.same.0 ∙ sym (niceless_lives k.objects.things.queue f.state.things.queue q f.alike.queue)
+  living q =
+      let f = from Queue tt in
+      ap (λ queue. lives queue q) f.same.0
+      ∙ sym (niceless_lives k.objects.things.queue f.state.things.queue q f.alike.queue)
 
   pub files : (p : ℕ) → SameFiles p k.objects x
   files p fd = elim (cases_Bool (nat_lt p 16)) [
     | inr beyond ↦
-        ap windowless (no_file_beyond k.world k.objects p fd (lives k.objects.things.queue p) here.kernel.state.store refl beyond
+        ap windowless (no_file_beyond k.world k.objects p fd (lives k.objects.things.queue p)
+        here.kernel.state.store refl beyond
         ∙ sym (no_file_beyond k.world x p fd (lives x.things.queue p) here.store refl beyond))
     | inl within ↦ elim (cases_Bool (nat_lt fd 4)) [
       | inr high ↦
-          ap windowless (no_file_high k.world k.objects p fd (k.objects.things.file p fd) here.kernel.state.store refl high
+          ap windowless (no_file_high k.world k.objects p fd (k.objects.things.file p fd)
+          here.kernel.state.store refl high
           ∙ sym (no_file_high k.world x p fd (x.things.file p fd) here.store refl high))
-      | inl low ↦ let f = from (OpenFile p fd) (lower_is p 16 within, lower_is fd 4 low) in f.alike.files p fd ∙ ap windowless (sym f.same)
+      | inl low ↦ let f = from (OpenFile p fd) (lower_is p 16 within, lower_is fd 4 low) in
+          f.alike.files p fd ∙ ap windowless (sym f.same)
     ]
   ]
 
   pub locks : (u : ℕ) → k.objects.things.lock u ≡ x.things.lock u
   locks u = elim (cases_Bool (nat_lt u 16)) [
     | inl low ↦ let f = from (Lock u) (lower_is u 16 low) in f.alike.locks u ∙ sym f.same
-    | inr high ↦ no_lock k.objects here.kernel.state.store (k.objects.things.lock u) refl high ∙ sym (no_lock x here.store (x.things.lock u) refl high)
+    | inr high ↦ no_lock k.objects here.kernel.state.store (k.objects.things.lock u) refl high
+        ∙ sym (no_lock x here.store (x.things.lock u) refl high)
   ]
     where
-      no_lock : (s : Objects) → IsSoundStore k.world s → (y : Option ℕ) → s.things.lock u ≡ y → nat_lt u 16 ≡ false → y ≡ None
+      no_lock : (s : Objects) → IsSoundStore k.world s → (y : Option ℕ) → s.things.lock u ≡ y →
+          nat_lt u 16 ≡ false → y ≡ None
       no_lock s sound None e high = refl
       no_lock s sound (Some h) e high = contrary (sym (lower_true u 16 (sound.holders u h e).0) ∙ high)
 
@@ -156,7 +187,8 @@ module _ (m : Meaning) (laws : Laws m) (k : Kernel) (x : Objects) (here : IsPlac
         policies = λ kind. chosen_same kind (nat_lt kind 3) refl;
       }
     where
-      chosen_same : (kind : ℕ) (b : Bool) → nat_lt kind 3 ≡ b → (k.objects.things.pol kind).chosen ≡ (cond b (x.things.pol kind) (k.objects.things.pol kind)).chosen
+      chosen_same : (kind : ℕ) (b : Bool) → nat_lt kind 3 ≡ b → (k.objects.things.pol kind).chosen
+          ≡ (cond b (x.things.pol kind) (k.objects.things.pol kind)).chosen
       chosen_same kind true e = chosen kind (lower_is kind 3 e)
       chosen_same kind false e = refl
 

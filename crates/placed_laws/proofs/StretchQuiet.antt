@@ -1,5 +1,6 @@
 -- What a quiet instruction is: it goes on and calls nothing, or it only reads.
-use Rattle.std.proofs.Common.{◌≡◌, ◌⊎◌, ℕ, suc, ◌==◌, ◌&&◌, not, Bool, true, false, cond, Option, Some, None, arith, refl, inl, inr}
+use Rattle.std.proofs.Common.{◌≡◌, ◌⊎◌, ℕ, suc, ◌==◌, ◌&&◌, not, Bool, true, false, cond, Option}
+use Rattle.std.proofs.Common.{Some, None, arith, refl, inl, inr}
 use Rattle.std.specs.Prelude.{is_none, option_map}
 use Rattle.std.proofs.lemmas.Bool.Decides.{nat_tests}
 use Rattle.kernel_model.specs.declared.Cause.{Cause}
@@ -11,6 +12,7 @@ use Rattle.kernel_model.specs.Access.{Access, Gives, Changes, Refuses, access, a
 use Rattle.kernel_model.specs.Locks.{is_held}
 use Rattle.kernel_model.specs.Levels.{answered}
 use Rattle.placed_laws.specs.Stretch.{Setting, given, shares_held, is_read, after_quiet, quiet, quiet_on}
+use Rattle.kernel_model.specs.Quiet.{both_hold}
 
 -- a call from m that only reads, with the machine after it
 pub record Reads (s : Setting) (m j : Machine) : Type 0 where
@@ -24,10 +26,6 @@ pub record Reads (s : Setting) (m j : Machine) : Type 0 where
   pub held : is_held (s.touched (accessed id (m.regs 0) s.owner).object) ≡ true
   pub gives : access id (m.regs 0) (m.regs 1) (m.regs 2) s.owner s.things ≡ Gives result
   pub is : answered Victim result 0 k ≡ j
-
-both : (a b : Bool) → (a && b) ≡ true → (a ≡ true) × (b ≡ true)
-both true b h = (refl, h)
-both false b h = absurd cc
 
 none_is : (x : Option Cause) → is_none x ≡ true → x ≡ None
 none_is None h = refl
@@ -45,9 +43,13 @@ module _ (s : Setting) (m j : Machine) (id : ℕ) (k : Machine) (called : seg_st
   by_access : (a : Access) → access id (m.regs 0) (m.regs 1) (m.regs 2) s.owner s.things ≡ a → is_read s id m ≡ true →
       option_map (λ result. answered Victim result 0 k) (given a) ≡ Some j → Reads s m j
   by_access (Gives result) gives reads e =
-      let first = both (is_none (early_refusal s.callable id (m.regs 0) (m.regs 1) s.owner)) (not (is_ask id) && shares_held (accessed id (m.regs 0) s.owner).mode (s.touched (accessed id (m.regs 0) s.owner).object)) reads in
-      let second = both (not (is_ask id)) (shares_held (accessed id (m.regs 0) s.owner).mode (s.touched (accessed id (m.regs 0) s.owner).object)) first.1 in
-      let third = shares (accessed id (m.regs 0) s.owner).mode (s.touched (accessed id (m.regs 0) s.owner).object) second.1 in
+      let first = both_hold (is_none (early_refusal s.callable id (m.regs 0) (m.regs 1) s.owner))
+      (not (is_ask id) && shares_held (accessed id (m.regs 0) s.owner).mode
+      (s.touched (accessed id (m.regs 0) s.owner).object)) reads in
+      let second = both_hold (not (is_ask id)) (shares_held (accessed id (m.regs 0) s.owner).mode
+      (s.touched (accessed id (m.regs 0) s.owner).object)) first.1 in
+      let third = shares (accessed id (m.regs 0) s.owner).mode
+      (s.touched (accessed id (m.regs 0) s.owner).object) second.1 in
       record {
         id = id;
         k = k;
@@ -64,14 +66,17 @@ module _ (s : Setting) (m j : Machine) (id : ℕ) (k : Machine) (called : seg_st
   by_access (Refuses cause) gives reads e = absurd cc
 
   by_test : (b : Bool) → is_read s id m ≡ b →
-      cond b (option_map (λ result. answered Victim result 0 k) (given (access id (m.regs 0) (m.regs 1) (m.regs 2) s.owner s.things))) None ≡ Some j → Reads s m j
+      cond b (option_map (λ result. answered Victim result 0 k)
+      (given (access id (m.regs 0) (m.regs 1) (m.regs 2) s.owner s.things))) None ≡ Some j →
+      Reads s m j
   by_test true reads e = by_access (access id (m.regs 0) (m.regs 1) (m.regs 2) s.owner s.things) refl reads e
   by_test false reads e = absurd cc
 
 pub quiet_cases : (s : Setting) (m j : Machine) → quiet s m ≡ Some j → (seg_step s.code m ≡ Done.Went j) ⊎ Reads s m j
 quiet_cases s m j h = by_done (seg_step s.code m) refl h
   where
-    by_done : (d : Done) → seg_step s.code m ≡ d → after_quiet s m d ≡ Some j → (seg_step s.code m ≡ Done.Went j) ⊎ Reads s m j
+    by_done : (d : Done) → seg_step s.code m ≡ d → after_quiet s m d ≡ Some j →
+        (seg_step s.code m ≡ Done.Went j) ⊎ Reads s m j
     by_done (Done.Went k) is e = let same : k ≡ j = cc in inl (rw same at is)
     by_done (Done.Called id k) is e = inr (by_test s m j id k is (is_read s id m) refl e)
     by_done Done.Returned is e = absurd cc
@@ -89,7 +94,9 @@ pub record Last (s : Setting) (n : ℕ) (first m : Machine) : Type 0 where
 pub last : (s : Setting) (n : ℕ) (first m : Machine) → quiet_on s (suc n) first ≡ Some m → Last s n first m
 last s n first m h = by_case (quiet_on s n first) refl h
   where
-    by_case : (o : Option Machine) → quiet_on s n first ≡ o → elim o as (λ _. Option Machine) [ None ↦ None | Some k ↦ quiet s k ] ≡ Some m → Last s n first m
+    by_case : (o : Option Machine) → quiet_on s n first ≡ o →
+        elim o as (λ _. Option Machine) [ None ↦ None | Some k ↦ quiet s k ] ≡ Some m →
+        Last s n first m
     by_case None is e = absurd cc
     by_case (Some k) is e = record { k = k; before = is; step = e }
 

@@ -15,13 +15,14 @@ use Rattle.kernel_model.specs.Alike.{LevelsAlike, AreAlike, windowless, niceless
 use Rattle.kernel_model.specs.Laws.{Laws}
 use Rattle.kernel_laws.specs.Soundness.{IsGraftsWork, AreGraftsWork, IsAskedAt, WorksOn, found_by}
 use Rattle.graft_laws.proofs.HoldLemmas.{changed_held}
-use Rattle.graft_laws.proofs.CommitLemmas.{alike_self}
-use Rattle.history_laws.proofs.SoundCallLemmas.{each_contains, contains_first, contains_later}
+use Rattle.graft_laws.proofs.SoundCallLemmas.{contains_first, contains_later}
 use Rattle.placed_laws.proofs.LevelLemmas.{relaid, relaid_alike}
 use Rattle.placed_laws.proofs.GraftedLemmas.{Grafted, grafted}
 use Rattle.placed_laws.proofs.PairLemmas.{FoundAs}
 use Rattle.placed_laws.proofs.SourceLemmas.{IsPlaced, shown, files, queue, lru, frames, locks, chosen, handlers}
 use Rattle.placed_laws.proofs.ConfigLemmas.{laid_over, laid_config_sound, of_found, found_works}
+use Rattle.kernel_laws.proofs.SettleLemmas.{alike_self}
+use Rattle.kernel_laws.proofs.LevelLemmas.{each_contains}
 
 -- the same level is asked
 asked_alike : (a : Point) (ls ks : List Level) → LevelsAlike ls ks → IsAskedAt a ls → IsAskedAt a ks
@@ -37,7 +38,9 @@ asked_alike a (l ∷ []) (k ∷ j ∷ js) h asked = absurd h.1
 asked_alike a (l ∷ i ∷ ls) (k ∷ []) h asked = absurd h.1
 asked_alike a (l ∷ i ∷ ls) (k ∷ j ∷ js) h asked = asked_alike a (i ∷ ls) (j ∷ js) h.1 asked
 
-works_from : (m : Meaning) (k : Kernel) (x : Objects) (ls : List Level) → ((n : Level) → Contains ls n → IsGraftsWork k.world x x.accounts n.kept) → AreGraftsWork k.world x x.accounts (found_by ls)
+works_from : (m : Meaning) (k : Kernel) (x : Objects) (ls : List Level) →
+    ((n : Level) → Contains ls n → IsGraftsWork k.world x x.accounts n.kept) →
+    AreGraftsWork k.world x x.accounts (found_by ls)
 works_from m k x [] h = tt
 works_from m k x (l ∷ ls) h = (h l (contains_first l ls), works_from m k x ls (λ n c. h n (contains_later l n ls c)))
 
@@ -58,7 +61,8 @@ module _ (m : Meaning) (laws : Laws m) (k : Kernel) (x : Objects) (here : IsPlac
       below : (kind : ℕ) → nat_lt kind 3 ≡ true → kind < 3
       below kind h = grind (arith, nat_tests)
 
-      chosen_same : (kind : ℕ) (b : Bool) → nat_lt kind 3 ≡ b → (k.objects.things.pol kind).chosen ≡ (cond b (y.things.pol kind) (k.objects.things.pol kind)).chosen
+      chosen_same : (kind : ℕ) (b : Bool) → nat_lt kind 3 ≡ b → (k.objects.things.pol kind).chosen
+          ≡ (cond b (y.things.pol kind) (k.objects.things.pol kind)).chosen
       chosen_same kind true e = chosen m laws k x here kind (below kind e) ∙ alike.policies kind
       chosen_same kind false e = refl
 
@@ -67,18 +71,22 @@ module _ (m : Meaning) (laws : Laws m) (k : Kernel) (x : Objects) (here : IsPlac
     g = grafted m laws k here.kernel p c is
 
     -- what a level found over the store is alike to it
-    pub kept_near : (a : Accounts) (n : Level) → Contains (relaid x.things c.levels) n → AreAlike x (record { accounts = a; things = n.kept })
+    pub kept_near : (a : Accounts) (n : Level) → Contains (relaid x.things c.levels) n →
+        AreAlike x (record { accounts = a; things = n.kept })
     kept_near a n among =
         let f = of_found m laws k x here p c is n among in
-        let work = each_contains (λ (l : Level). IsGraftsWork k.world k.objects c.now.accounts l.kept) c.levels f.0 (found_works m k c.now c.levels g.works.works.1.1) f.1 in
+        let work = each_contains (λ (l : Level). IsGraftsWork k.world k.objects c.now.accounts
+        l.kept) c.levels f.0 (found_works m k c.now c.levels g.works.works.1.1) f.1 in
         near_by f.0 f.2 work.alike
       where
-        near_by : (l : Level) → FoundAs (is_changed_in c.levels) x.things l n → AreAlike k.objects (record { accounts = c.now.accounts; things = l.kept }) →
+        near_by : (l : Level) → FoundAs (is_changed_in c.levels) x.things l n →
+            AreAlike k.objects (record { accounts = c.now.accounts; things = l.kept }) →
             AreAlike x (record { accounts = a; things = n.kept })
         near_by l f work =
             record {
               files = λ q fd. elim (cases_Bool (is_changed_in c.levels (OpenFile q fd))) [
-                | inl changed ↦ sym (files m laws k x here q fd) ∙ work.files q fd ∙ ap windowless (f.own (OpenFile q fd) changed)
+                | inl changed ↦ sym (files m laws k x here q fd) ∙ work.files q fd
+                    ∙ ap windowless (f.own (OpenFile q fd) changed)
                 | inr free ↦ ap windowless (sym (f.other (OpenFile q fd) free))
               ];
               queue = elim (cases_Bool (is_changed_in c.levels Queue)) [
@@ -90,11 +98,13 @@ module _ (m : Meaning) (laws : Laws m) (k : Kernel) (x : Objects) (here : IsPlac
                 | inr free ↦ sym (f.other Queue free).1
               ];
               lru = elim (cases_Bool (is_changed_in c.levels Cache)) [
-                | inl changed ↦ sym (lru m laws k x here) ∙ work.lru ∙ ap (λ (y : CacheValue). y.lru) (f.own Cache changed)
+                | inl changed ↦ sym (lru m laws k x here) ∙ work.lru
+                    ∙ ap (λ (y : CacheValue). y.lru) (f.own Cache changed)
                 | inr free ↦ ap (λ (y : CacheValue). y.lru) (sym (f.other Cache free))
               ];
               frames = λ i. elim (cases_Bool (is_changed_in c.levels Cache)) [
-                | inl changed ↦ sym (frames m laws k x here i) ∙ work.frames i ∙ ap (λ (y : CacheValue). markless (y.frame i)) (f.own Cache changed)
+                | inl changed ↦ sym (frames m laws k x here i) ∙ work.frames i
+                    ∙ ap (λ (y : CacheValue). markless (y.frame i)) (f.own Cache changed)
                 | inr free ↦ ap (λ (y : CacheValue). markless (y.frame i)) (sym (f.other Cache free))
               ];
               locks = λ u. elim (cases_Bool (is_changed_in c.levels (Lock u))) [
@@ -102,7 +112,9 @@ module _ (m : Meaning) (laws : Laws m) (k : Kernel) (x : Objects) (here : IsPlac
                 | inr free ↦ sym (f.other (Lock u) free)
               ];
               policies = λ kind. elim (cases_Bool (is_changed_in c.levels (Pol kind))) [
-                | inl changed ↦ sym (chosen m laws k x here kind (g.replayed.ranges (Pol kind) (changed_held c.levels (Pol kind) changed))) ∙ work.policies kind ∙ ap (λ (y : PolValue). y.chosen) (f.own (Pol kind) changed)
+                | inl changed ↦ sym (chosen m laws k x here kind (g.replayed.ranges (Pol kind)
+                    (changed_held c.levels (Pol kind) changed))) ∙ work.policies kind
+                    ∙ ap (λ (y : PolValue). y.chosen) (f.own (Pol kind) changed)
                 | inr free ↦ ap (λ (y : PolValue). y.chosen) (sym (f.other (Pol kind) free))
               ];
             }
@@ -116,8 +128,14 @@ module _ (m : Meaning) (laws : Laws m) (k : Kernel) (x : Objects) (here : IsPlac
             work,
             (
               work,
-              works_from m k x (relaid x.things c.levels) (λ n among. record { store = (laid_config_sound m laws k x here p c is).found n among; alike = kept_near x.accounts n among }),
+              works_from m k x (relaid x.things c.levels) (λ n among. record {
+                store = (laid_config_sound m laws k x here p c is).found n among;
+                alike = kept_near x.accounts n among;
+              }),
             ),
           );
-          asked = asked_alike (grafted m laws k here.kernel p c is).point c.levels (relaid x.things c.levels) (relaid_alike x.things c.levels) (grafted m laws k here.kernel p c is).works.asked;
+          asked =
+              asked_alike (grafted m laws k here.kernel p c is).point c.levels
+              (relaid x.things c.levels) (relaid_alike x.things c.levels)
+              (grafted m laws k here.kernel p c is).works.asked;
         }

@@ -1,3 +1,4 @@
+pub use Rattle.graft_laws.specs.Notes
 pub mod Agreeing
 pub mod Keeping
 pub mod Owners
@@ -9,3 +10,4 @@ pub mod Resting
 pub mod Soundness
 pub mod Stands
 pub mod Stretch
+pub mod Undone

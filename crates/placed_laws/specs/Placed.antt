@@ -12,7 +12,7 @@ use Rattle.kernel_model.specs.Locks.{Touched, LockTable, Hindrance, first_hindra
 use Rattle.kernel_model.specs.Levels.{Level, Config}
 use Rattle.kernel_model.specs.GraftStep.{next_needs, lock_user}
 use Rattle.kernel_model.specs.UndoLog.{undo_all}
-use Rattle.kernel_model.specs.Kernel.{Blocker, Entry}
+use Rattle.kernel_model.specs.Kernel.{Blocker, Waiter}
 use Rattle.kernel_model.specs.Blocking.{locks_from}
 
 -- ---- the state
@@ -51,7 +51,7 @@ pub record Placed : Type 0 where
   -- some
   pub levels : ℕ → List PlacedLevel
   -- the order of waiting
-  pub order : List Entry
+  pub order : List Waiter
 
 -- an event under way: the kernel in place, the disk's blocks, the notes so far, and what the disk's
 -- next calls will do

@@ -9,13 +9,13 @@ use Rattle.kernel_model.specs.declared.Refusal.{Refusal}
 use Rattle.kernel_model.specs.declared.Refusal.TheVariants.{NoProcess, Busy, BadIndex, TimedOut}
 use Rattle.kernel_model.specs.declared.Cause.{Cause}
 use Rattle.kernel_model.specs.declared.Cause.TheVariants.{TimeOut}
-use Rattle.kernel_model.specs.World.{World, Blocks}
+use Rattle.kernel_model.specs.World.{World}
 use Rattle.kernel_model.specs.Policies.{lives}
 use Rattle.kernel_model.specs.Meaning.{Meaning, Stage}
 use Rattle.kernel_model.specs.Locks.{outermost_holding}
-use Rattle.kernel_model.specs.Kernel.{Blocker, Entry}
+use Rattle.kernel_model.specs.Kernel.{Blocker, Waiter}
 use Rattle.kernel_model.specs.Events.{object_kind, MOST_STEPS, in_order, wanted}
-use Rattle.placed_laws.specs.Placed.{PlacedLevel, PlacedCall, Placed, PlacedRun, has_some}
+use Rattle.placed_laws.specs.Placed.{PlacedLevel, PlacedCall, PlacedRun, has_some}
 use Rattle.placed_laws.specs.Placed.{placed_holds, placed_needs, placed_blocker}
 use Rattle.placed_laws.specs.PlacedSteps.{with_placed_call, placed_noted, placed_joins}
 use Rattle.placed_laws.specs.PlacedSteps.{placed_requeue, placed_ticked, with_placed_order}
@@ -37,12 +37,12 @@ placed_graft_note n (l ∷ ls) r = placed_noted (InGraft n l.owner l.point (suc 
 -- ---- counts
 
 -- an entry's count has reached the patience of its blocker's kind
-abbrev pub is_over_by : World → Entry → Option Blocker → Bool
+abbrev pub is_over_by : World → Waiter → Option Blocker → Bool
 is_over_by v e None = false
 is_over_by v e (Some b) = nat_le (v.patience (object_kind b.object)) e.count
 
 -- the first entry whose count has reached the patience
-abbrev pub expired_by : World → List Entry → Option Entry
+abbrev pub expired_by : World → List Waiter → Option Waiter
 expired_by v [] = None
 expired_by v (e ∷ es) = elim (is_over_by v e e.blocker) [ true ↦ Some e | false ↦ expired_by v es ]
 
@@ -146,7 +146,7 @@ module _ (m : Meaning) where
   placed_action p b (Some n) r = placed_holder p b r
 
   -- the action for an entry that has waited too long
-  abbrev pub placed_entry_action : Entry → Option Blocker → PlacedRun → PlacedRun
+  abbrev pub placed_entry_action : Waiter → Option Blocker → PlacedRun → PlacedRun
   placed_entry_action e None r = r
   placed_entry_action e (Some b) r = placed_action e.process b b.call r
 
@@ -179,9 +179,3 @@ module _ (m : Meaning) where
         | false ↦ placed_noted (Refused number NoProcess) r
         | true ↦ placed_sys_event number p call (r.placed.call p) r
       ]
-
-  -- one event of this number over these blocks; io says of each of its calls of the disk whether it
-  -- fails
-  abbrev pub placed_event : Placed → Blocks → ℕ → Event → List Bool → PlacedRun
-  placed_event x blocks number e io =
-      placed_event_on number e (record { placed = x; blocks = blocks; notes = []; io = io })

@@ -5,7 +5,7 @@ use Rattle.kernel_model.specs.declared.RawRow.{RawRow}
 use Rattle.kernel_model.specs.declared.WaitRow.{WaitRow}
 use Rattle.kernel_model.specs.World.{processes}
 use Rattle.kernel_model.specs.UndoLog.{undo_log, numbered_log}
-use Rattle.kernel_model.specs.Kernel.{Entry}
+use Rattle.kernel_model.specs.Kernel.{Waiter}
 use Rattle.kernel_model.specs.RawRows.{living, points, acct_row, cells_row, open_rows, graft_rows}
 use Rattle.kernel_model.specs.RawRows.{pol_row, frame_row_of, lock_row, wait_by, top_of}
 use Rattle.kernel_model.specs.RawRows.{rows_of_levels, undo_row}
@@ -13,7 +13,7 @@ use Rattle.placed_laws.specs.Placed.{PlacedCall, Placed, placed_levels}
 
 -- what a process waits for
 abbrev pub placed_wait_row : Placed → ℕ → Option WaitRow
-placed_wait_row x p = wait_by (find (λ (e : Entry). e.process == p) x.order)
+placed_wait_row x p = wait_by (find (λ (e : Waiter). e.process == p) x.order)
 
 -- a call in flight
 abbrev pub placed_call_row : Placed → ℕ → Option RawRow

@@ -11,7 +11,7 @@ use Rattle.kernel_model.specs.Meaning.{Meaning, Piece, After, Continues, EndsWit
 use Rattle.kernel_model.specs.Levels.{Config, Outcome, answer_of, drop_level}
 use Rattle.kernel_model.specs.GraftStep.{micro}
 use Rattle.kernel_model.specs.History.{begin_at}
-use Rattle.kernel_model.specs.Kernel.{Entry, gave_note, after_note, new_entry, less_entry}
+use Rattle.kernel_model.specs.Kernel.{Waiter, gave_note, after_note, new_entry, less_entry}
 use Rattle.kernel_model.specs.Settle.{entry_with}
 use Rattle.kernel_model.specs.Locks.{LockTable}
 use Rattle.kernel_model.specs.Events.{counted}
@@ -84,7 +84,7 @@ placed_requeue p r =
     }
 
 -- the order of waiting becomes this one
-abbrev pub with_placed_order : List Entry → PlacedRun → PlacedRun
+abbrev pub with_placed_order : List Waiter → PlacedRun → PlacedRun
 with_placed_order es r = record r { placed = record (r.placed) { order = es } }
 
 -- the clock and all counts rise by one
@@ -180,7 +180,7 @@ module _ (m : Meaning) where
   -- ---- the order and its blockers
 
   -- the first of these entries that nothing blocks, where the table tells what calls hold
-  abbrev pub placed_first_free_in : Placed → LockTable → List Entry → Option ℕ
+  abbrev pub placed_first_free_in : Placed → LockTable → List Waiter → Option ℕ
   placed_first_free_in x locks [] = None
   placed_first_free_in x locks (e ∷ es) =
       elim (placed_blocker_in m x locks e.process) [
@@ -189,10 +189,10 @@ module _ (m : Meaning) where
       ]
 
   -- the first of these entries that nothing blocks
-  abbrev pub placed_first_free : Placed → List Entry → Option ℕ
+  abbrev pub placed_first_free : Placed → List Waiter → Option ℕ
   placed_first_free x es = placed_first_free_in x (placed_holds x) es
 
   -- each entry with its blocker
-  abbrev pub placed_rested_order : Placed → List Entry → List Entry
+  abbrev pub placed_rested_order : Placed → List Waiter → List Waiter
   placed_rested_order x es =
-      map (λ (e : Entry). entry_with e (placed_blocker_in m x (placed_holds x) e.process)) es
+      map (λ (e : Waiter). entry_with e (placed_blocker_in m x (placed_holds x) e.process)) es

@@ -7,5 +7,6 @@ pub mod owners;
 pub mod resting;
 pub mod soundness;
 pub mod stretching;
-#[cfg(test)]
-mod tests;
+pub mod undoing;
+
+pub use call_laws::PlainRules;

@@ -1,5 +1,6 @@
 -- Lemmas on handlers.
-use Rattle.std.proofs.Common.{◌≡◌, ℕ, ◌+◌, ◌<◌, ◌≤◌, Bool, true, List, [], ◌∷◌, ◌++◌, length, filter, not, ◌&&◌, ◌==◌, nat_le, nat_lt, refl, arith, length-append}
+use Rattle.std.proofs.Common.{◌≡◌, ℕ, ◌+◌, ◌<◌, ◌≤◌, Bool, true, List, [], ◌∷◌, ◌++◌, length}
+use Rattle.std.proofs.Common.{filter, not, ◌&&◌, ◌==◌, nat_le, nat_lt, refl, arith, length-append}
 use Rattle.std.specs.List.{list_any, list_all}
 use Rattle.std.proofs.lemmas.Bool.Decides.{nat_tests}
 use Rattle.std.proofs.lemmas.List.Elements.{filter-append}
@@ -22,28 +23,48 @@ gone q pt [] = refl
 gone q pt (h ∷ hs) = grind (arith, nat_tests, gone q pt hs)
 
 -- one that stood makes room at its point
-fewer : (q pt : ℕ) (hs : List (ℕ × ℕ)) → list_any (is_handler q pt) hs ≡ true → length (handlers_at pt (handlers_without q pt hs)) < length (handlers_at pt hs)
+fewer : (q pt : ℕ) (hs : List (ℕ × ℕ)) → list_any (is_handler q pt) hs ≡ true →
+    length (handlers_at pt (handlers_without q pt hs)) < length (handlers_at pt hs)
 fewer q pt [] h = grind arith
-fewer q pt (x ∷ hs) h = grind (arith, nat_tests, fewer q pt hs, length-twice (λ (y : ℕ × ℕ). y.1 == pt) (λ y. not (is_handler q pt y)) hs)
+fewer q pt (x ∷ hs) h =
+    grind (
+      arith,
+      nat_tests,
+      fewer q pt hs,
+      length-twice (λ (y : ℕ × ℕ). y.1 == pt)
+          (λ y. not (is_handler q pt y)) hs,
+    )
 
 -- where a handler has room, fewer than 8 others stand at its point
-pub room-at : (q pt : ℕ) (hs : List (ℕ × ℕ)) → has_room q pt hs ≡ true → AreHandlers hs → length (handlers_at pt (handlers_without q pt hs)) < 8
+pub room-at : (q pt : ℕ) (hs : List (ℕ × ℕ)) → has_room q pt hs ≡ true → AreHandlers hs →
+    length (handlers_at pt (handlers_without q pt hs)) < 8
 room-at q pt hs room h =
-    grind (arith, nat_tests, fewer q pt hs, h.most pt, length-twice (λ (y : ℕ × ℕ). y.1 == pt) (λ y. not (is_handler q pt y)) hs)
+    grind (
+      arith,
+      nat_tests,
+      fewer q pt hs,
+      h.most pt,
+      length-twice (λ (y : ℕ × ℕ). y.1 == pt)
+          (λ y. not (is_handler q pt y)) hs,
+    )
 
-within : (hs : List (ℕ × ℕ)) (k : ℕ) → list_all is_point hs ≡ true → list_any (λ (h : ℕ × ℕ). h.1 == k) hs ≡ true → (6 ≤ k) × (k < 6 + 8)
+within : (hs : List (ℕ × ℕ)) (k : ℕ) → list_all is_point hs ≡ true →
+    list_any (λ (h : ℕ × ℕ). h.1 == k) hs ≡ true → (6 ≤ k) × (k < 6 + 8)
 within [] k all some = grind arith
 within (h ∷ hs) k all some = grind (arith, nat_tests, within hs k)
 
 -- where a handler has room, fewer than 64 others stand
-pub room : (q pt : ℕ) (hs : List (ℕ × ℕ)) → 6 ≤ pt → pt ≤ 13 → has_room q pt hs ≡ true → AreHandlers hs → length (handlers_without q pt hs) < 64
+pub room : (q pt : ℕ) (hs : List (ℕ × ℕ)) → 6 ≤ pt → pt ≤ 13 → has_room q pt hs ≡ true →
+    AreHandlers hs → length (handlers_without q pt hs) < 64
 room q pt hs low high has h =
     let kept = handlers_pass (λ x. not (is_handler q pt x)) hs h in
-    length-below (λ (x : ℕ × ℕ). x.1) (handlers_without q pt hs) 6 8 8 pt (λ k some. within (handlers_without q pt hs) k kept.points some) kept.most low (omega arith)
+    length-below (λ (x : ℕ × ℕ). x.1) (handlers_without q pt hs) 6 8 8 pt
+    (λ k some. within (handlers_without q pt hs) k kept.points some) kept.most low (omega arith)
     (room-at q pt hs has h)
 
 -- a handler is put last
-pub added : (q pt : ℕ) (hs : List (ℕ × ℕ)) → 6 ≤ pt → pt ≤ 13 → has_room q pt hs ≡ true → AreHandlers hs → AreHandlers (handlers_without q pt hs ++ (q, pt) ∷ [])
+pub added : (q pt : ℕ) (hs : List (ℕ × ℕ)) → 6 ≤ pt → pt ≤ 13 → has_room q pt hs ≡ true →
+    AreHandlers hs → AreHandlers (handlers_without q pt hs ++ (q, pt) ∷ [])
 added q pt hs low high has h =
     let kept = handlers_pass (λ x. not (is_handler q pt x)) hs h in
     record {

@@ -1,12 +1,15 @@
 -- Lemmas on lists: a map in place, and how long a list is whose elements are counted by a number.
-use Rattle.std.proofs.Common.{◌≡◌, ℕ, zero, suc, ◌+◌, ◌*◌, ◌<◌, ◌≤◌, true, false, cond, List, [], ◌∷◌, ◌++◌, length, filter, map, ◌==◌, get_or, set, take, drop, replicate, refl, arith}
+use Rattle.std.proofs.Common.{◌≡◌, ℕ, zero, suc, ◌+◌, ◌*◌, ◌<◌, ◌≤◌, true, false, cond, List, []}
+use Rattle.std.proofs.Common.{◌∷◌, ◌++◌, length, filter, map, ◌==◌, get_or, set, take, drop}
+use Rattle.std.proofs.Common.{replicate, refl, arith}
 use Rattle.std.specs.List.{list_any}
 use Rattle.std.proofs.lemmas.Bool.Decides.{nat_tests}
 use Rattle.std.proofs.lemmas.Grind.{common_steps}
 use Rattle.std.proofs.lemmas.List.Edits.{map_over_more}
 
 -- one step of a map in place
-pub map_step : {X : Type 0} (f : X → X) (xs ys : List X) (i : ℕ) (d y : X) → i < length xs → ys ≡ map f (take i xs) ++ drop i xs → y ≡ f (get_or ys i d)
+pub map_step : {X : Type 0} (f : X → X) (xs ys : List X) (i : ℕ) (d y : X) → i < length xs →
+    ys ≡ map f (take i xs) ++ drop i xs → y ≡ f (get_or ys i d)
     → set ys i y ≡ map f (take (i + 1) xs) ++ drop (i + 1) xs
 map_step f xs ys i d y lt h is =
     let same : get_or ys i d ≡ get_or ys i (get_or ys i d) = grind (arith, common_steps) in
@@ -54,11 +57,13 @@ unfolding sum_from
 sum_from-same low zero f g h = refl
 sum_from-same low (suc n) f g h = omega (arith, sum_from-same low n f g h, h (low + n))
 
-counted-cons : {X : Type 0} (key : X → ℕ) (x : X) (xs : List X) (k : ℕ) → counted key (x ∷ xs) k ≡ one_at (key x) k + counted key xs k
+counted-cons : {X : Type 0} (key : X → ℕ) (x : X) (xs : List X) (k : ℕ) →
+    counted key (x ∷ xs) k ≡ one_at (key x) k + counted key xs k
 counted-cons key x xs k = grind (arith, nat_tests)
 
 -- the elements are those of each number together
-length-counted : {X : Type 0} (key : X → ℕ) (xs : List X) (low n : ℕ) → ((k : ℕ) → list_any (λ x. key x == k) xs ≡ true → (low ≤ k) × (k < low + n))
+length-counted : {X : Type 0} (key : X → ℕ) (xs : List X) (low n : ℕ) →
+    ((k : ℕ) → list_any (λ x. key x == k) xs ≡ true → (low ≤ k) × (k < low + n))
     → sum_from low n (counted key xs) ≡ length xs
 length-counted key [] low n h = sum_from-none low n
 length-counted key (x ∷ xs) low n h =
@@ -77,7 +82,8 @@ unfolding sum_from
 sum_from-le low zero m f h = omega arith
 sum_from-le low (suc n) m f h = grind (arith, sum_from-le low n m f h, h (low + n))
 
-sum_from-lt : (low n m c : ℕ) (f : ℕ → ℕ) → ((k : ℕ) → f k ≤ m) → low ≤ c → c < low + n → f c < m → sum_from low n f < n * m
+sum_from-lt : (low n m c : ℕ) (f : ℕ → ℕ) → ((k : ℕ) → f k ≤ m) → low ≤ c → c < low + n → f c < m →
+    sum_from low n f < n * m
 unfolding sum_from
 sum_from-lt low zero m c f h le lt less = absurd (omega arith)
 sum_from-lt low (suc n) m c f h le lt less =
@@ -87,7 +93,8 @@ sum_from-lt low (suc n) m c f h le lt less =
     ] refl
 
 -- fewer than n * m elements have their numbers among n, where at most m have each and fewer than m have c
-pub length-below : {X : Type 0} (key : X → ℕ) (xs : List X) (low n m c : ℕ) → ((k : ℕ) → list_any (λ x. key x == k) xs ≡ true → (low ≤ k) × (k < low + n))
+pub length-below : {X : Type 0} (key : X → ℕ) (xs : List X) (low n m c : ℕ) →
+    ((k : ℕ) → list_any (λ x. key x == k) xs ≡ true → (low ≤ k) × (k < low + n))
     → ((k : ℕ) → counted key xs k ≤ m) → low ≤ c → c < low + n → counted key xs c < m → length xs < n * m
 length-below key xs low n m c within most le lt less =
     omega (arith, length-counted key xs low n within, sum_from-lt low n m c (counted key xs) most le lt less)

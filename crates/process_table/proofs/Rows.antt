@@ -1,5 +1,8 @@
 -- Lemmas on the rows of the queue.
-use Rattle.std.proofs.Common.{◌≡◌, ℕ, zero, suc, ◌+◌, ◌-◌, ◌<◌, ◌≤◌, Bool, true, false, cond, Some, None, List, [], ◌∷◌, ◌++◌, length, filter, take, drop, get_or, remove, not, ◌&&◌, ◌==◌, nat_le, refl, arith, subst, sym, ◌∙◌, add-one, append_assoc, length-append}
+use Rattle.std.proofs.Common.{◌≡◌, ℕ, zero, suc, ◌+◌, ◌-◌, ◌<◌, ◌≤◌, Bool, true, false, cond, Some}
+use Rattle.std.proofs.Common.{None, List, [], ◌∷◌, ◌++◌, length, filter, take, drop, get_or}
+use Rattle.std.proofs.Common.{remove, not, ◌&&◌, ◌==◌, nat_le, refl, arith, subst, sym, ◌∙◌}
+use Rattle.std.proofs.Common.{add-one, append_assoc, length-append}
 use Rattle.std.specs.List.{list_all}
 use Rattle.std.proofs.lemmas.Bool.Decides.{nat_tests}
 use Rattle.std.proofs.lemmas.List.{append-nil, take_more, drop_more}
@@ -47,18 +50,16 @@ pub rows_of-gone : (p : ℕ) (rows : List QueueRow) → lives rows p ≡ false �
 rows_of-gone p [] h = refl
 rows_of-gone p (r ∷ rows) h = grind (arith, nat_tests, rows_of-gone p rows)
 
--- the rows of a process and the others are all rows
-pub length-parted : (p : ℕ) (rows : List QueueRow) → length (queue_without p rows) + length (rows_of p rows) ≡ length rows
-length-parted p [] = refl
-length-parted p (r ∷ rows) = grind (arith, nat_tests, length-parted p rows)
-
 -- ---- room
 
 -- where a number isn't living, fewer than 16 live
 pub length-free : (rows : List QueueRow) (c : ℕ) → IsQueue rows → IsLeastFree rows c → length rows < 16
 length-free rows c h free =
-    let none : length (filter (λ (r : QueueRow). r.process == c) rows) < 1 = grind (arith, rows_of-gone c rows free.free) in
-    length-below (λ (r : QueueRow). r.process) rows 0 16 1 c (λ k some. (omega arith, omega (arith, h.below k some))) h.once (omega arith) free.below none
+    let none : length (filter (λ (r : QueueRow). r.process == c) rows) < 1 =
+    grind (arith, rows_of-gone c rows free.free) in
+    length-below (λ (r : QueueRow). r.process) rows 0 16 1 c
+    (λ k some. (omega arith, omega (arith, h.below k some))) h.once (omega arith)
+    free.below none
 
 -- ---- without a process
 
@@ -66,11 +67,14 @@ pub living-without : (q p : ℕ) (rows : List QueueRow) → lives (queue_without
 living-without q p [] = grind (arith, nat_tests)
 living-without q p (r ∷ rows) = grind (arith, nat_tests, living-without q p rows)
 
-pub rows_of-without : (q p : ℕ) (rows : List QueueRow) → length (rows_of q (queue_without p rows)) ≤ length (rows_of q rows)
+pub rows_of-without : (q p : ℕ) (rows : List QueueRow) →
+    length (rows_of q (queue_without p rows)) ≤ length (rows_of q rows)
 rows_of-without q p [] = omega arith
 rows_of-without q p (r ∷ rows) = grind (arith, nat_tests, rows_of-without q p rows)
 
-pub nices-filter : (test : QueueRow → Bool) (rows : List QueueRow) → list_all (λ (r : QueueRow). nat_le r.nice 39) rows ≡ true → list_all (λ (r : QueueRow). nat_le r.nice 39) (filter test rows) ≡ true
+pub nices-filter : (test : QueueRow → Bool) (rows : List QueueRow) →
+    list_all (λ (r : QueueRow). nat_le r.nice 39) rows ≡ true →
+    list_all (λ (r : QueueRow). nat_le r.nice 39) (filter test rows) ≡ true
 nices-filter test [] h = refl
 nices-filter test (r ∷ rows) h = grind (arith, nat_tests, nices-filter test rows)
 
@@ -82,13 +86,22 @@ living-of q p (r ∷ rows) = grind (arith, nat_tests, living-of q p rows)
 
 pub living-to_back : (q p : ℕ) (rows : List QueueRow) → lives (to_back p rows) q ≡ lives rows q
 living-to_back q p rows =
-    grind (arith, nat_tests, list_any-append (λ (r : QueueRow). r.process == q) (queue_without p rows) (rows_of p rows), living-without q p rows, living-of q p rows)
+    grind (
+      arith,
+      nat_tests,
+      list_any-append (λ (r : QueueRow). r.process == q)
+          (queue_without p rows) (rows_of p rows),
+      living-without q p rows,
+      living-of q p rows,
+    )
 
-pub rows_of-parted : (q p : ℕ) (rows : List QueueRow) → length (rows_of q (queue_without p rows)) + length (rows_of q (rows_of p rows)) ≡ length (rows_of q rows)
+pub rows_of-parted : (q p : ℕ) (rows : List QueueRow) → length (rows_of q
+    (queue_without p rows)) + length (rows_of q (rows_of p rows)) ≡ length (rows_of q rows)
 rows_of-parted q p [] = refl
 rows_of-parted q p (r ∷ rows) = grind (arith, nat_tests, rows_of-parted q p rows)
 
-pub rows_of-append : (q : ℕ) (xs ys : List QueueRow) → length (rows_of q (xs ++ ys)) ≡ length (rows_of q xs) + length (rows_of q ys)
+pub rows_of-append : (q : ℕ) (xs ys : List QueueRow) →
+    length (rows_of q (xs ++ ys)) ≡ length (rows_of q xs) + length (rows_of q ys)
 rows_of-append q xs ys = rw filter-append (length-append (rows_of q xs) (rows_of q ys))
 
 -- the rows once the first k were looked at: those that were passed, those that are left, and those
@@ -97,16 +110,13 @@ pub record IsTurned (p k : ℕ) (rows now : List QueueRow) (place : ℕ) : Type 
   pub rows_are : now ≡ queue_without p (take k rows) ++ (drop k rows ++ rows_of p (take k rows))
   pub place_is : place ≡ length (queue_without p (take k rows))
 
--- none was looked at
-pub turned_none : (p : ℕ) (rows : List QueueRow) → IsTurned p 0 rows rows 0
-turned_none p rows = record { rows_are = sym (append-nil rows); place_is = refl }
-
 -- a row of the process goes to the back
 turned_back : (p : ℕ) (row : QueueRow) (seen left : List QueueRow) → (row.process == p) ≡ true →
     remove (queue_without p seen ++ (row ∷ (left ++ rows_of p seen))) (length (queue_without p seen)) ++ row ∷ []
     ≡ queue_without p (seen ++ row ∷ []) ++ (left ++ rows_of p (seen ++ row ∷ []))
 turned_back p row seen left e =
-    let gone = remove-append_right (queue_without p seen) (row ∷ (left ++ rows_of p seen)) (length (queue_without p seen)) (length (queue_without p seen)) refl (omega arith) in
+    let gone = remove-append_right (queue_without p seen) (row ∷ (left ++ rows_of p seen))
+    (length (queue_without p seen)) (length (queue_without p seen)) refl (omega arith) in
     let none : length (queue_without p seen) - length (queue_without p seen) ≡ 0 = omega arith in
     rw (gone, none, filter-append, filter-append, e) (simp (append_assoc, append-nil))
 
@@ -124,7 +134,8 @@ turned_place : (p : ℕ) (row : QueueRow) (seen : List QueueRow) →
 turned_place p row seen = rw (filter-append, length-append) (grind (arith, nat_tests))
 
 -- one more is looked at
-pub turned_more : (p k : ℕ) (rows now new : List QueueRow) (place next : ℕ) → k < length rows → IsTurned p k rows now place
+pub turned_more : (p k : ℕ) (rows now new : List QueueRow) (place next : ℕ) → k < length rows →
+    IsTurned p k rows now place
     → ((row : QueueRow) → get_or now place row ≡ row → new ≡ cond (row.process == p) (remove now place ++ row ∷ []) now)
     → ((row : QueueRow) → get_or now place row ≡ row → next ≡ cond (row.process == p) place (place + 1))
     → IsTurned p (k + 1) rows new next
@@ -139,7 +150,8 @@ turned_more p k rows now new place next lt t goes on =
     let more : take (k + 1) rows ≡ seen ++ row ∷ [] = take_more rows k (new_row 0) lt in
     record {
       rows_are =
-          elim (row.process == p) as (λ b. (row.process == p) ≡ b → new ≡ queue_without p (take (k + 1) rows) ++ (left ++ rows_of p (take (k + 1) rows))) [
+          elim (row.process == p) as (λ b. (row.process == p) ≡ b → new
+          ≡ queue_without p (take (k + 1) rows) ++ (left ++ rows_of p (take (k + 1) rows))) [
             | true ↦ λ e. rw (more, goes row is, e, parted, t.place_is) (turned_back p row seen left e)
             | false ↦ λ e. rw (more, goes row is, e, parted) (turned_past p row seen left e)
           ] refl;
@@ -152,11 +164,14 @@ pub living-nice : (q p v : ℕ) (rows : List QueueRow) → lives (with_nice p v 
 living-nice q p v [] = refl
 living-nice q p v (r ∷ rows) = grind (arith, nat_tests, living-nice q p v rows)
 
-pub rows_of-nice : (q p v : ℕ) (rows : List QueueRow) → length (rows_of q (with_nice p v rows)) ≡ length (rows_of q rows)
+pub rows_of-nice : (q p v : ℕ) (rows : List QueueRow) →
+    length (rows_of q (with_nice p v rows)) ≡ length (rows_of q rows)
 rows_of-nice q p v [] = refl
 rows_of-nice q p v (r ∷ rows) = grind (arith, nat_tests, rows_of-nice q p v rows)
 
-pub nices-nice : (p v : ℕ) (rows : List QueueRow) → v ≤ 39 → list_all (λ (r : QueueRow). nat_le r.nice 39) rows ≡ true → list_all (λ (r : QueueRow). nat_le r.nice 39) (with_nice p v rows) ≡ true
+pub nices-nice : (p v : ℕ) (rows : List QueueRow) → v ≤ 39 →
+    list_all (λ (r : QueueRow). nat_le r.nice 39) rows ≡ true →
+    list_all (λ (r : QueueRow). nat_le r.nice 39) (with_nice p v rows) ≡ true
 nices-nice p v [] le h = refl
 nices-nice p v (r ∷ rows) le h = grind (arith, nat_tests, nices-nice p v rows)
 
@@ -188,14 +203,23 @@ pub spawned-queue : (c : ℕ) (rows : List QueueRow) → c < 16 → lives rows c
     IsQueue rows → IsQueue (rows ++ new_row c ∷ [])
 spawned-queue c rows lt free h = record {
   once = λ p. grind (arith, nat_tests, rows_of-append p rows (new_row c ∷ []), rows_of-gone c rows free, h.once p);
-  below = λ p living. grind (arith, nat_tests, list_any-append (λ (r : QueueRow). r.process == p) rows (new_row c ∷ []), h.below p);
+  below =
+      λ p living. grind (
+        arith,
+        nat_tests,
+        list_any-append (λ (r : QueueRow). r.process == p) rows
+            (new_row c ∷ []),
+        h.below p,
+      );
   nices = rw list_all-append (grind (arith, nat_tests, h.nices));
   root = rw list_any-append (grind (arith, nat_tests, h.root));
 }
 
 -- whoever lived before a process joined lives
 pub living-spawned : (q c : ℕ) (rows : List QueueRow) → lives rows q ≡ true → lives (rows ++ new_row c ∷ []) q ≡ true
-living-spawned q c rows h = grind (arith, nat_tests, list_any-append (λ (r : QueueRow). r.process == q) rows (new_row c ∷ []))
+living-spawned q c rows h =
+    grind
+    (arith, nat_tests, list_any-append (λ (r : QueueRow). r.process == q) rows (new_row c ∷ []))
 
 pub without-queue : (p : ℕ) (rows : List QueueRow) → 0 < p → IsQueue rows → IsQueue (queue_without p rows)
 without-queue p rows pos h = record {
@@ -207,10 +231,19 @@ without-queue p rows pos h = record {
 
 pub to_back-queue : (p : ℕ) (rows : List QueueRow) → IsQueue rows → IsQueue (to_back p rows)
 to_back-queue p rows h = record {
-  once = λ q. grind (arith, rows_of-append q (queue_without p rows) (rows_of p rows), rows_of-parted q p rows, h.once q);
+  once =
+      λ q. grind (
+        arith,
+        rows_of-append q (queue_without p rows) (rows_of p rows),
+        rows_of-parted q p rows,
+        h.once q,
+      );
   below = λ q living. h.below q (sym (living-to_back q p rows) ∙ living);
   nices =
-      rw list_all-append (rw (nices-filter (λ (r : QueueRow). not (r.process == p)) rows h.nices, nices-filter (λ (r : QueueRow). r.process == p) rows h.nices) refl);
+      rw list_all-append (rw (
+        nices-filter (λ (r : QueueRow). not (r.process == p)) rows h.nices,
+        nices-filter (λ (r : QueueRow). r.process == p) rows h.nices,
+      ) refl);
   root = living-to_back 0 p rows ∙ h.root;
 }
 

@@ -1,5 +1,7 @@
 -- Lemmas on the arrays: what always holds of them stays.
-use Rattle.std.proofs.Common.{◌≡◌, ◌≢◌, ℕ, ◌+◌, ◌*◌, ◌<◌, true, cond, Option, None, List, [], ◌∷◌, length, map, not, ◌==◌, nat_lt, get_or, set, refl, arith, ◌∙◌, ap, IfSome}
+use Rattle.std.proofs.Common.{◌≡◌, ◌≢◌, ℕ, ◌+◌, ◌*◌, ◌<◌, true, cond, Option, None, List, [], ◌∷◌}
+use Rattle.std.proofs.Common.{length, map, not, ◌==◌, nat_lt, get_or, set, refl, arith, ◌∙◌, ap}
+use Rattle.std.proofs.Common.{IfSome}
 use Rattle.std.specs.List.{list_all}
 use Rattle.std.proofs.lemmas.Bool.Decides.{nat_tests}
 use Rattle.std.proofs.lemmas.Grind.{common_steps}
@@ -36,64 +38,27 @@ requeued t rows h queue lives = record {
 }
 
 -- the handlers change
-pub handled : (t : Table) (hs : List (ℕ × ℕ)) → IsTable t → AreHandlers hs → list_all (λ (x : ℕ × ℕ). nat_lt x.0 16) hs ≡ true
+pub handled : (t : Table) (hs : List (ℕ × ℕ)) → IsTable t → AreHandlers hs →
+    list_all (λ (x : ℕ × ℕ). nat_lt x.0 16) hs ≡ true
     → IsTable (record t { handlers = hs })
 handled t hs h are low = record {
   cells = h.cells;
   files = h.files;
   holders = h.holders;
-  sound = record { queue = h.sound.queue; cells = h.sound.cells; files = h.sound.files; locks = h.sound.locks; handlers = are; processes = low };
-}
-
--- a cell of a living process changes
-pub with_cell : (t : Table) (p k v : ℕ) → k < 4 → lives t.queue p ≡ true →
-    IsTable t → IsTable (record t { cells = set t.cells (4 * p + k) v })
-with_cell t p k v lt lives h = record {
-  cells = length-set t.cells (4 * p + k) v ∙ h.cells;
-  files = h.files;
-  holders = h.holders;
-  sound = record {
-    queue = h.sound.queue;
-    cells = λ q l dead.
-        let other : q ≢ p = λ e. grind (arith, lives, dead) in
-        grind (arith, nat_tests, h.sound.cells q l dead, get_or-set_other t.cells (4 * p + k) (4 * q + l) v 0);
-    files = h.sound.files;
-    locks = h.sound.locks;
-    handlers = h.sound.handlers;
-    processes = h.sound.processes;
-  };
-}
-
--- a descriptor changes, and an open file is that of a living process
-pub with_file : (t : Table) (p fd : ℕ) (row : Option OpenRow) → p < 16 → fd < 4 →
-    IfSome row (λ _. lives t.queue p ≡ true) → IsTable t
-    → IsTable (record t { files = set t.files (4 * p + fd) row })
-with_file t p fd row le lt lives h = record {
-  cells = h.cells;
-  files = length-set t.files (4 * p + fd) row ∙ h.files;
-  holders = h.holders;
-  sound = record {
-    queue = h.sound.queue;
-    cells = h.sound.cells;
-    files = λ q l dead.
-        grind (
-          arith,
-          nat_tests,
-          h.files,
-          lives,
-          dead,
-          h.sound.files q l dead,
-          get_or-set_other t.files (4 * p + fd) (4 * q + l) row None,
-          get_or-set_same t.files (4 * p + fd) row None,
-        );
-    locks = h.sound.locks;
-    handlers = h.sound.handlers;
-    processes = h.sound.processes;
-  };
+  sound =
+      record {
+        queue = h.sound.queue;
+        cells = h.sound.cells;
+        files = h.sound.files;
+        locks = h.sound.locks;
+        handlers = are;
+        processes = low;
+      };
 }
 
 -- the row at a descriptor becomes what is made of it
-pub file_becomes : (files : List (Option OpenRow)) (p fd i : ℕ) (row : Option OpenRow) (change : Option OpenRow → Option OpenRow) → length files ≡ 64 → p < 16 → fd < 4 →
+pub file_becomes : (files : List (Option OpenRow)) (p fd i : ℕ) (row : Option OpenRow)
+    (change : Option OpenRow → Option OpenRow) → length files ≡ 64 → p < 16 → fd < 4 →
     i ≡ 4 * p + fd → row ≡ change (get_or files i None)
     → files_in (set files i row) ≡ at2 p fd (change (files_in files p fd)) (files_in files)
 file_becomes files p fd i row change long le lt place changed =
@@ -101,29 +66,21 @@ file_becomes files p fd i row change long le lt place changed =
     let same : row ≡ change (files_in files p fd) = changed ∙ ap change there in
     fun_ext
     (λ q. fun_ext
-    (λ l. grind (arith, nat_tests, long, place, same, get_or-set_other files i (4 * q + l) row None, get_or-set_same files i row None)))
-
--- a lock changes, and a holder lives
-pub with_holder : (t : Table) (u : ℕ) (p : Option ℕ) → u < 16 → IfSome p (λ q. lives t.queue q ≡ true) → IsTable t
-    → IsTable (record t { holders = set t.holders u p })
-with_holder t u p lt lives h = record {
-  cells = h.cells;
-  files = h.files;
-  holders = length-set t.holders u p ∙ h.holders;
-  sound = record {
-    queue = h.sound.queue;
-    cells = h.sound.cells;
-    files = h.sound.files;
-    locks = λ w q held.
-        grind (arith, nat_tests, h.holders, lives, held, h.sound.locks w q, get_or-set_other t.holders u w p None, get_or-set_same t.holders u p None);
-    handlers = h.sound.handlers;
-    processes = h.sound.processes;
-  };
-}
+    (λ l. grind (
+      arith,
+      nat_tests,
+      long,
+      place,
+      same,
+      get_or-set_other files i (4 * q + l) row None,
+      get_or-set_same files i row None,
+    )))
 
 -- a process that isn't root leaves
-pub left : (t : Table) (p : ℕ) (cells : List ℕ) (files : List (Option OpenRow)) → 0 < p → length cells ≡ 64 → length files ≡ 64
-    → ((i : ℕ) → get_or cells i 0 ≡ cond (is_of p i) 0 (get_or t.cells i 0)) → ((i : ℕ) → get_or files i None ≡ cond (is_of p i) None (get_or t.files i None))
+pub left : (t : Table) (p : ℕ) (cells : List ℕ) (files : List (Option OpenRow)) → 0 < p →
+    length cells ≡ 64 → length files ≡ 64
+    → ((i : ℕ) → get_or cells i 0 ≡ cond (is_of p i) 0 (get_or t.cells i 0)) →
+    ((i : ℕ) → get_or files i None ≡ cond (is_of p i) None (get_or t.files i None))
     → IsTable t
     → IsTable (record {
       queue = queue_without p t.queue;
@@ -149,8 +106,10 @@ left t p cells files pos long wide cleared closed h = record {
 }
 
 -- process 0 lives alone
-pub opened : (cells : List ℕ) (files : List (Option OpenRow)) (holders : List (Option ℕ)) → length cells ≡ 64 → length files ≡ 64 → length holders ≡ 16
-    → ((i : ℕ) → get_or cells i 0 ≡ 0) → ((i : ℕ) → get_or files i None ≡ None) → ((u : ℕ) → get_or holders u None ≡ None)
+pub opened : (cells : List ℕ) (files : List (Option OpenRow)) (holders : List (Option ℕ)) →
+    length cells ≡ 64 → length files ≡ 64 → length holders ≡ 16
+    → ((i : ℕ) → get_or cells i 0 ≡ 0) → ((i : ℕ) → get_or files i None ≡ None) →
+    ((u : ℕ) → get_or holders u None ≡ None)
     → IsTable (record { queue = new_row 0 ∷ []; cells = cells; files = files; holders = holders; handlers = [] })
 opened cells files holders a b d zeros closed free = record {
   cells = a;

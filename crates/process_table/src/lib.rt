@@ -6,7 +6,5 @@
 mod arrays;
 mod queue;
 mod table;
-#[cfg(test)]
-mod tests;
 
 pub use table::Procs;

@@ -32,13 +32,12 @@ mod tests {
         Policy, RaNext, RaNone, RaSeq, SchedNice, SchedRound, VictimLru, VictimMark, is_stock,
         put_last,
     };
-    use mem_disk::MemDisk;
+    use mem_disk::{Disk, Failed, MemDisk, MemSink, MemSource, Source};
     use sha2::{Digest, Sha256};
     use std::alloc::{AllocError, Global};
     use std::cell::Cell;
     use std::rc::Rc;
     use std::test::Fail;
-    use vino_base::{Disk, Failed, MemSink, MemSource, Source};
     use vino_top::{demo_script, vino};
 
     /// The key of the generated script.
@@ -139,7 +138,7 @@ mod tests {
 
     impl Source for Trickle {
         ghost use Rattle.std.specs.Prelude.{None};
-        ghost use Rattle.vino_base.specs.Memory.{source_seen};
+        ghost use Rattle.mem_disk.specs.Memory.{source_seen};
 
         ghost seen = { λ s. record { rest = None; device = (source_seen s.inner).device } };
 

@@ -58,7 +58,11 @@ impl Policy for Noting {
 
     fn answer(&self, ask: &Ask) -> u32 {
         match *ask {
-            Ask::Ahead(true, window, left) => self.blocks.min(window).min(left),
+            Ask::Ahead {
+                sequential: true,
+                window,
+                left,
+            } => self.blocks.min(window).min(left),
             _ => 0,
         }
     }

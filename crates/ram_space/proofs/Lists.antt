@@ -1,8 +1,11 @@
 -- Bytes that are put in place of others in a list.
-use Rattle.std.proofs.Common.{◌≡◌, ℕ, zero, suc, ◌+◌, ◌-◌, ◌<◌, ◌≤◌, ◌&&◌, Bool, true, false, List, [], ◌∷◌, ◌++◌, length, take, drop, replicate, arith, sym, ◌∙◌, ap}
+use Rattle.std.proofs.Common.{◌≡◌, ℕ, zero, suc, ◌+◌, ◌-◌, ◌<◌, ◌≤◌, ◌&&◌, Bool, true, false, List}
+use Rattle.std.proofs.Common.{[], ◌∷◌, ◌++◌, length, take, drop, replicate, arith, sym, ◌∙◌, ap}
 use Rattle.std.specs.Cmp.Lexicographic.{pointwise}
 use Rattle.std.specs.Prelude.{nat_eq, slice_range, slice_set}
-use Rattle.std.proofs.lemmas.List.{append_assoc, length-append, length-replicate, length-take-le, length-drop, drop-drop, drop-take, take-take, take-append-le, drop-append-le, take-append-drop, take_all, take-set, drop-set}
+use Rattle.std.proofs.lemmas.List.{append_assoc, length-append, length-replicate, length-take-le}
+use Rattle.std.proofs.lemmas.List.{length-drop, drop-drop, drop-take, take-take, take-append-le}
+use Rattle.std.proofs.lemmas.List.{drop-append-le, take-append-drop, take_all, take-set, drop-set}
 use Rattle.ram_space.specs.Pages.{put, cleared}
 use Rattle.std.proofs.Math.Seq.{take-append-add, drop-append-add, take-add}
 
@@ -13,14 +16,16 @@ range_within xs ys a b order inside =
     ∙ take-append-le (b - a) (drop a xs) ys (let e = length-drop a xs in omega (arith, e))
 
 -- a range of the bytes behind the first
-pub range_behind : (xs ys : List ℕ) (k a b : ℕ) → length xs ≡ k → slice_range (xs ++ ys) (k + a) (k + b) ≡ slice_range ys a b
+pub range_behind : (xs ys : List ℕ) (k a b : ℕ) → length xs ≡ k →
+    slice_range (xs ++ ys) (k + a) (k + b) ≡ slice_range ys a b
 range_behind xs ys k a b e =
     ap (λ j. take (k + b - (k + a)) (drop (j + a) (xs ++ ys))) (sym e)
     ∙ ap (take (k + b - (k + a))) (drop-append-add xs ys a)
     ∙ ap (λ j. take j (drop a ys)) (let d : k + b - (k + a) ≡ b - a = omega arith in d)
 
 -- a range of a range
-pub range_of_range : (xs : List ℕ) (s m o n : ℕ) → o + n ≤ m → slice_range (slice_range xs s (s + m)) o (o + n) ≡ slice_range xs (s + o) (s + o + n)
+pub range_of_range : (xs : List ℕ) (s m o n : ℕ) → o + n ≤ m →
+    slice_range (slice_range xs s (s + m)) o (o + n) ≡ slice_range xs (s + o) (s + o + n)
 range_of_range xs s m o n inside =
     ap (λ j. take (o + n - o) (drop o (take j (drop s xs)))) (let d : s + m - s ≡ o + (m - o) = omega arith in d)
     ∙ ap (take (o + n - o)) (drop-take o (m - o) (drop s xs))
@@ -30,18 +35,21 @@ range_of_range xs s m o n inside =
 
 pub range_length : (xs : List ℕ) (a n : ℕ) → a + n ≤ length xs → length (slice_range xs a (a + n)) ≡ n
 range_length xs a n inside =
-    length-take-le (a + n - a) (drop a xs) (let e = length-drop a xs in omega (arith, e)) ∙ (let d : a + n - a ≡ n = omega arith in d)
+    length-take-le (a + n - a) (drop a xs) (let e = length-drop a xs in omega (arith, e))
+    ∙ (let d : a + n - a ≡ n = omega arith in d)
 
 -- they leave as many
 pub put_length : (a : ℕ) (from xs : List ℕ) → a + length from ≤ length xs → length (put a from xs) ≡ length xs
 put_length a from xs inside =
     length-append (take a xs ++ from) (drop (a + length from) xs)
-    ∙ ap (λ n. n + length (drop (a + length from) xs)) (length-append (take a xs) from ∙ ap (λ n. n + length from) (length-take-le a xs (omega arith)))
+    ∙ ap (λ n. n + length (drop (a + length from) xs)) (length-append (take a xs) from
+    ∙ ap (λ n. n + length from) (length-take-le a xs (omega arith)))
     ∙ ap (λ n. a + length from + n) (length-drop (a + length from) xs)
     ∙ (let done : a + length from + (length xs - (a + length from)) ≡ length xs = omega arith in done)
 
 -- a range before them
-pub range_before_put : (a : ℕ) (from xs : List ℕ) (x y : ℕ) → x ≤ y → y ≤ a → a ≤ length xs → slice_range (put a from xs) x y ≡ slice_range xs x y
+pub range_before_put : (a : ℕ) (from xs : List ℕ) (x y : ℕ) → x ≤ y → y ≤ a → a ≤ length xs →
+    slice_range (put a from xs) x y ≡ slice_range xs x y
 range_before_put a from xs x y order before inside =
     let long = length-take-le a xs inside in
     ap (λ zs. slice_range zs x y) (append_assoc (take a xs) from (drop (a + length from) xs))
@@ -51,11 +59,13 @@ range_before_put a from xs x y order before inside =
     ∙ take-take (y - x) (a - x) (drop x xs) (omega arith)
 
 -- a range behind them
-pub range_behind_put : (a : ℕ) (from xs : List ℕ) (x y : ℕ) → a + length from ≤ x → a + length from ≤ length xs → slice_range (put a from xs) x y ≡ slice_range xs x y
+pub range_behind_put : (a : ℕ) (from xs : List ℕ) (x y : ℕ) → a + length from ≤ x →
+    a + length from ≤ length xs → slice_range (put a from xs) x y ≡ slice_range xs x y
 range_behind_put a from xs x y behind inside =
     let e = a + length from in
     let first = take a xs ++ from in
-    let long : length first ≡ e = length-append (take a xs) from ∙ ap (λ n. n + length from) (length-take-le a xs (omega arith)) in
+    let long : length first ≡ e = length-append (take a xs) from
+    ∙ ap (λ n. n + length from) (length-take-le a xs (omega arith)) in
     let m = x - e in
     ap (λ j. take (y - x) (drop j (first ++ drop e xs))) (let d : x ≡ length first + m = omega (arith, long) in d)
     ∙ ap (take (y - x)) (drop-append-add first (drop e xs) m)
@@ -71,20 +81,25 @@ range_around_put s m o from xs inside room =
     let front = take o (drop s xs) ++ from in
     let r = m - (o + n) in
     let size : s + m - s ≡ m = omega arith in
-    let long : length front ≡ o + n = length-append (take o (drop s xs)) from ∙ ap (λ j. j + n) (length-take-le o (drop s xs) (let e = length-drop s xs in omega (arith, e))) in
+    let long : length front ≡ o + n = length-append (take o (drop s xs)) from ∙ ap (λ j. j + n)
+    (length-take-le o (drop s xs) (let e = length-drop s xs in omega (arith, e))) in
     ap (λ zs. take (s + m - s) (drop s zs)) (append_assoc (take (s + o) xs) from rest)
-    ∙ ap (take (s + m - s)) (drop-append-le s (take (s + o) xs) (from ++ rest) (let e = length-take-le (s + o) xs (omega arith) in omega (arith, e)))
+    ∙ ap (take (s + m - s)) (drop-append-le s (take (s + o) xs)
+    (from ++ rest) (let e = length-take-le (s + o) xs (omega arith) in omega (arith, e)))
     ∙ ap (λ zs. take (s + m - s) (zs ++ (from ++ rest))) (drop-take s o xs)
     ∙ ap (take (s + m - s)) (sym (append_assoc (take o (drop s xs)) from rest))
     ∙ ap (λ j. take j (front ++ rest)) (let d : s + m - s ≡ length front + r = omega (arith, long) in d)
     ∙ take-append-add front rest r
-    ∙ ap (λ zs. front ++ take r zs) (ap (λ j. drop j xs) (let d : s + o + n ≡ s + (o + n) = omega arith in d) ∙ sym (drop-drop (o + n) s xs))
+    ∙ ap (λ zs. front ++ take r zs) (ap (λ j. drop j xs)
+    (let d : s + o + n ≡ s + (o + n) = omega arith in d) ∙ sym (drop-drop (o + n) s xs))
     ∙ ap (λ zs. front ++ zs) (sym (drop-take (o + n) r (drop s xs)))
     ∙ ap (λ j. front ++ drop (o + n) (take j (drop s xs))) (let d : o + n + r ≡ s + m - s = omega arith in d)
-    ∙ ap (λ zs. zs ++ from ++ drop (o + n) (take (s + m - s) (drop s xs))) (sym (take-take o (s + m - s) (drop s xs) (omega arith)))
+    ∙ ap (λ zs. zs ++ from ++ drop (o + n) (take (s + m - s) (drop s xs)))
+    (sym (take-take o (s + m - s) (drop s xs) (omega arith)))
 
 -- bytes put among the first
-pub put_within : (a : ℕ) (from xs ys : List ℕ) → a + length from ≤ length xs → put a from (xs ++ ys) ≡ put a from xs ++ ys
+pub put_within : (a : ℕ) (from xs ys : List ℕ) → a + length from ≤ length xs →
+    put a from (xs ++ ys) ≡ put a from xs ++ ys
 put_within a from xs ys inside =
     ap (λ zs. zs ++ from ++ drop (a + length from) (xs ++ ys)) (take-append-le a xs ys (omega arith))
     ∙ ap (λ zs. take a xs ++ from ++ zs) (drop-append-le (a + length from) xs ys inside)
@@ -95,7 +110,8 @@ pub put_behind : (k a : ℕ) (from xs ys : List ℕ) → length xs ≡ k → put
 put_behind k a from xs ys e =
     ap (λ j. take (j + a) (xs ++ ys) ++ from ++ drop (k + a + length from) (xs ++ ys)) (sym e)
     ∙ ap (λ zs. zs ++ from ++ drop (k + a + length from) (xs ++ ys)) (take-append-add xs ys a)
-    ∙ ap (λ j. xs ++ take a ys ++ from ++ drop j (xs ++ ys)) (let d : k + a + length from ≡ length xs + (a + length from) = omega (arith, e) in d)
+    ∙ ap (λ j. xs ++ take a ys ++ from ++ drop j (xs ++ ys))
+    (let d : k + a + length from ≡ length xs + (a + length from) = omega (arith, e) in d)
     ∙ ap (λ zs. xs ++ take a ys ++ from ++ zs) (drop-append-add xs ys (a + length from))
     ∙ ap (λ zs. zs ++ drop (a + length from) ys) (append_assoc xs (take a ys) from)
     ∙ append_assoc xs (take a ys ++ from) (drop (a + length from) ys)
@@ -122,18 +138,23 @@ put_twice a first second xs inside =
     let n = length second in
     let front = take a xs ++ first in
     let rest = drop (a + m) xs in
-    let long : length front ≡ a + m = length-append (take a xs) first ∙ ap (λ j. j + m) (length-take-le a xs (omega arith)) in
+    let long : length front ≡ a + m = length-append (take a xs) first
+    ∙ ap (λ j. j + m) (length-take-le a xs (omega arith)) in
     ap (λ j. put j second (front ++ rest)) (let d : a + m ≡ a + m + 0 = omega arith in d)
     ∙ put_behind (a + m) 0 second front rest long
     ∙ ap (λ j. front ++ (second ++ drop j rest)) (let d : 0 + n ≡ n = omega arith in d)
-    ∙ ap (λ zs. front ++ (second ++ zs)) (drop-drop n (a + m) xs ∙ ap (λ j. drop j xs) (let d : a + m + n ≡ a + length (first ++ second) = (let e = length-append first second in omega (arith, e)) in d))
+    ∙ ap (λ zs. front ++ (second ++ zs)) (drop-drop n (a + m) xs
+    ∙ ap (λ j. drop j xs) (let d : a + m + n ≡ a + length (first ++ second) =
+    (let e = length-append first second in omega (arith, e)) in d))
     ∙ sym (append_assoc front second (drop (a + length (first ++ second)) xs))
     ∙ ap (λ zs. zs ++ drop (a + length (first ++ second)) xs) (append_assoc (take a xs) first second)
 
 -- so many, and more of the same
 pub more_alike : (m n x : ℕ) → replicate m x ++ replicate n x ≡ replicate (m + n) x
 more_alike zero n x = ap (λ k. replicate k x) (let e : n ≡ zero + n = omega arith in e)
-more_alike (suc m) n x = ap (λ xs. x ∷ xs) (more_alike m n x) ∙ ap (λ k. replicate k x) (let e : suc (m + n) ≡ suc m + n = omega arith in e)
+more_alike (suc m) n x =
+    ap (λ xs. x ∷ xs) (more_alike m n x)
+    ∙ ap (λ k. replicate k x) (let e : suc (m + n) ≡ suc m + n = omega arith in e)
 
 -- a range of all
 take_whole : (n : ℕ) (xs : List ℕ) → length xs ≡ n → slice_range xs 0 n ≡ xs
@@ -144,7 +165,8 @@ take_whole n xs e =
 pub range_of_alike : (o n m x : ℕ) → o + n ≤ m → slice_range (replicate m x) o (o + n) ≡ replicate n x
 range_of_alike o n m x inside =
     let r = m - o - n in
-    ap (λ zs. slice_range zs o (o + n)) (ap (λ k. replicate k x) (let d : m ≡ o + (n + r) = omega arith in d) ∙ sym (more_alike o (n + r) x))
+    ap (λ zs. slice_range zs o (o + n)) (ap (λ k. replicate k x)
+    (let d : m ≡ o + (n + r) = omega arith in d) ∙ sym (more_alike o (n + r) x))
     ∙ ap (λ j. slice_range (replicate o x ++ replicate (n + r) x) j (o + n)) (let d : o ≡ o + 0 = omega arith in d)
     ∙ range_behind (replicate o x) (replicate (n + r) x) o 0 n (length-replicate o x)
     ∙ ap (λ zs. slice_range zs 0 n) (sym (more_alike n r x))
@@ -161,7 +183,10 @@ put_one a v xs inside =
 
 -- no byte put
 pub put_none : (a : ℕ) (from xs : List ℕ) → length from ≡ 0 → put a from xs ≡ xs
-put_none a [] xs e = append_assoc (take a xs) [] (drop (a + 0) xs) ∙ ap (λ j. take a xs ++ drop j xs) (let d : a + 0 ≡ a = omega arith in d) ∙ take-append-drop a xs
+put_none a [] xs e =
+    append_assoc (take a xs) [] (drop (a + 0) xs)
+    ∙ ap (λ j. take a xs ++ drop j xs) (let d : a + 0 ≡ a = omega arith in d)
+    ∙ take-append-drop a xs
 put_none a (v ∷ from) xs e = absurd (let never : ⊥ = omega (arith, e) in never)
 
 pub alike_length : (n x : ℕ) → length (replicate n x) ≡ n
@@ -181,39 +206,47 @@ zeros_twice a m n xs inside =
 pub cleared_put : (from to : ℕ) (xs : List ℕ) → from ≤ to → put from (replicate (to - from) 0) xs ≡ cleared from to xs
 cleared_put from to xs order =
     let e = alike_length (to - from) 0 in
-    ap (λ j. take from xs ++ replicate (to - from) 0 ++ drop j xs) (let d : from + length (replicate (to - from) 0) ≡ to = omega (arith, e, order) in d)
+    ap (λ j. take from xs ++ replicate (to - from) 0 ++ drop j xs)
+    (let d : from + length (replicate (to - from) 0) ≡ to = omega (arith, e, order) in d)
 
-pub cleared_twice : (from mid to : ℕ) (xs : List ℕ) → from ≤ mid → mid ≤ to → to ≤ length xs → cleared mid to (cleared from mid xs) ≡ cleared from to xs
+pub cleared_twice : (from mid to : ℕ) (xs : List ℕ) → from ≤ mid → mid ≤ to → to ≤ length xs →
+    cleared mid to (cleared from mid xs) ≡ cleared from to xs
 cleared_twice from mid to xs first second inside =
     ap (cleared mid to) (sym (cleared_put from mid xs first))
     ∙ sym (cleared_put mid to (put from (replicate (mid - from) 0) xs) second)
-    ∙ ap (λ j. put j (replicate (to - mid) 0) (put from (replicate (mid - from) 0) xs)) (let d : mid ≡ from + (mid - from) = omega (arith, first) in d)
+    ∙ ap (λ j. put j (replicate (to - mid) 0) (put from (replicate (mid - from) 0) xs))
+    (let d : mid ≡ from + (mid - from) = omega (arith, first) in d)
     ∙ zeros_twice from (mid - from) (to - mid) xs (omega arith)
-    ∙ ap (λ j. put from (replicate j 0) xs) (let d : mid - from + (to - mid) ≡ to - from = omega (arith, first, second) in d)
+    ∙ ap (λ j. put from (replicate j 0) xs)
+    (let d : mid - from + (to - mid) ≡ to - from = omega (arith, first, second) in d)
     ∙ cleared_put from to xs (omega arith)
 
 pub cleared_none : (from : ℕ) (xs : List ℕ) → cleared from from xs ≡ xs
 cleared_none from xs =
     sym (cleared_put from from xs (omega arith))
-    ∙ put_none from (replicate (from - from) 0) xs (alike_length (from - from) 0 ∙ (let e : from - from ≡ 0 = omega arith in e))
+    ∙ put_none from (replicate (from - from) 0) xs (alike_length (from - from) 0
+    ∙ (let e : from - from ≡ 0 = omega arith in e))
 
 -- ---- bytes compared
 
 -- a range in two parts
-range_parts : (a m n : ℕ) (xs : List ℕ) → slice_range xs a (a + (m + n)) ≡ slice_range xs a (a + m) ++ slice_range xs (a + m) (a + m + n)
+range_parts : (a m n : ℕ) (xs : List ℕ) →
+    slice_range xs a (a + (m + n)) ≡ slice_range xs a (a + m) ++ slice_range xs (a + m) (a + m + n)
 range_parts a m n xs =
     ap (λ j. take j (drop a xs)) (let d : a + (m + n) - a ≡ m + n = omega arith in d)
     ∙ take-add m n (drop a xs)
     ∙ ap (λ j. take j (drop a xs) ++ take n (drop m (drop a xs))) (let d : m ≡ a + m - a = omega arith in d)
     ∙ ap (λ zs. slice_range xs a (a + m) ++ take n zs) (drop-drop m a xs)
-    ∙ ap (λ j. slice_range xs a (a + m) ++ take j (drop (a + m) xs)) (let d : n ≡ a + m + n - (a + m) = omega arith in d)
+    ∙ ap (λ j. slice_range xs a (a + m) ++ take j (drop (a + m) xs))
+    (let d : n ≡ a + m + n - (a + m) = omega arith in d)
 
 and_assoc : (p q r : Bool) → (p && (q && r)) ≡ (p && q && r)
 and_assoc true q r = cc
 and_assoc false q r = cc
 
 -- lists compared in two parts
-same_parts : (xs ys zs ws : List ℕ) → length xs ≡ length zs → pointwise nat_eq (xs ++ ys) (zs ++ ws) ≡ (pointwise nat_eq xs zs && pointwise nat_eq ys ws)
+same_parts : (xs ys zs ws : List ℕ) → length xs ≡ length zs →
+    pointwise nat_eq (xs ++ ys) (zs ++ ws) ≡ (pointwise nat_eq xs zs && pointwise nat_eq ys ws)
 same_parts [] ys [] ws e = cc
 same_parts [] ys (z ∷ zs) ws e = absurd (let never : ⊥ = omega (arith, e) in never)
 same_parts (x ∷ xs) ys [] ws e = absurd (let never : ⊥ = omega (arith, e) in never)
@@ -223,14 +256,17 @@ same_parts (x ∷ xs) ys (z ∷ zs) ws e =
 
 pub has_parts : (a : ℕ) (first rest xs : List ℕ) → a + length first + length rest ≤ length xs →
     pointwise nat_eq (slice_range xs a (a + length (first ++ rest))) (first ++ rest)
-    ≡ (pointwise nat_eq (slice_range xs a (a + length first)) first && pointwise nat_eq (slice_range xs (a + length first) (a + length first + length rest)) rest)
+    ≡ (pointwise nat_eq (slice_range xs a (a + length first)) first && pointwise nat_eq
+    (slice_range xs (a + length first) (a + length first + length rest)) rest)
 has_parts a first rest xs inside =
     ap (λ n. pointwise nat_eq (slice_range xs a (a + n)) (first ++ rest)) (length-append first rest)
     ∙ ap (λ zs. pointwise nat_eq zs (first ++ rest)) (range_parts a (length first) (length rest) xs)
-    ∙ same_parts (slice_range xs a (a + length first)) (slice_range xs (a + length first) (a + length first + length rest)) first rest
+    ∙ same_parts (slice_range xs a (a + length first))
+    (slice_range xs (a + length first) (a + length first + length rest)) first rest
     (range_length xs a (length first) (omega arith))
 
 -- no byte stands anywhere
-pub has_none : (a : ℕ) (wanted xs : List ℕ) → length wanted ≡ 0 → true ≡ pointwise nat_eq (slice_range xs a (a + length wanted)) wanted
+pub has_none : (a : ℕ) (wanted xs : List ℕ) → length wanted ≡ 0 →
+    true ≡ pointwise nat_eq (slice_range xs a (a + length wanted)) wanted
 has_none a [] xs e = ap (λ n. pointwise nat_eq (take n (drop a xs)) []) (let d : 0 ≡ a + 0 - a = omega arith in d)
 has_none a (v ∷ wanted) xs e = absurd (let never : ⊥ = omega (arith, e) in never)

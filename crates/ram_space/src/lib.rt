@@ -8,6 +8,9 @@ ghost use Rattle.std.specs.Cmp.Lexicographic.{pointwise};
 ghost use Rattle.std.specs.Int.{w32, from_le_bytes, to_le_bytes};
 ghost use Rattle.ram_space.specs.Pages.{ArePages, Becomes, IsPart, IsPiece, IsSpace, cleared, memory_of, put};
 
+mod segments;
+
+pub use segments::{MOST_SEGMENTS, SEGMENT_BYTES, Segments};
 use std::alloc::{AllocError, Global};
 use std::marker::Model;
 
@@ -357,40 +360,4 @@ fn get_piece(bytes: &[u8], at: usize, count: usize) -> &[u8]
     ensures { result.now ≡ slice_range bytes.now at (at + count) }
 {
     &bytes[at..at + count]
-}
-
-#[cfg(test)]
-mod tests {
-    use super::*;
-
-    #[test]
-    fn words_have_their_lowest_byte_first(rt: HostRuntime) {
-        let made = Ram::new(rt.alloc());
-        assert!(rt; made.is_ok());
-        if let Ok(mut ram) = made {
-            assert_eq!(rt; ram.byte(0), 0);
-            assert_eq!(rt; ram.word(524_284), 0);
-            ram.put_word(524_284, 0x1122_3344);
-            ram.put_byte(4, 0x55);
-            ram.copy_in(5, b"\x66\x77");
-            assert!(rt; ram.bytes(524_283, 5) == b"\0\x44\x33\x22\x11".as_slice());
-            assert!(rt; ram.bytes(3, 5) == b"\0\x55\x66\x77\0".as_slice());
-            assert_eq!(rt; ram.word(4), 0x0077_6655);
-            assert_eq!(rt; ram.byte(524_287), 0x11);
-        }
-    }
-
-    #[test]
-    fn pieces_may_cross_pages(rt: HostRuntime) {
-        let made = Ram::new(rt.alloc());
-        assert!(rt; made.is_ok());
-        if let Ok(mut ram) = made {
-            assert!(rt; ram.has(8190, b"\0\0\0\0"));
-            ram.copy_in(8190, b"\x01\x02\x03\x04");
-            assert!(rt; ram.has(8190, b"\x01\x02\x03\x04"));
-            ram.clear(8191, 8193);
-            assert!(rt; ram.has(8189, b"\0\x01\0\0\x04\0"));
-            assert!(rt; !ram.has(8190, b"\x01\0\x03\x04"));
-        }
-    }
 }

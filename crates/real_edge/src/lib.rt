@@ -5,10 +5,9 @@
 #![tactic(auto)]
 
 mod file_disk;
+mod opened;
 mod streams;
 
 pub use file_disk::FileDisk;
+pub use opened::open_disk;
 pub use streams::{StreamSink, StreamSource};
-
-#[cfg(test)]
-mod tests;

@@ -1,17 +1,19 @@
 -- Where no call holds anything, nothing hinders a piece of a call that waits for no user lock of another process.
-use Rattle.std.proofs.Common.{◌≡◌, ℕ, suc, Bool, true, false, cond, not, ◌&&◌, ◌==◌, List, [], ◌∷◌, refl, ap, sym, ◌∙◌, arith, Option, Some, None}
+use Rattle.std.proofs.Common.{◌≡◌, ℕ, suc, Bool, true, false, cond, not, ◌&&◌, ◌==◌, List, [], ◌∷◌}
+use Rattle.std.proofs.Common.{refl, ap, sym, ◌∙◌, arith, Option, Some, None}
 use Rattle.std.specs.Prelude.{find, Contains}
-use Rattle.kernel_model.specs.declared.Need.{Need}
-use Rattle.kernel_model.specs.declared.Mode.{Mode}
-use Rattle.kernel_model.specs.declared.Object.{Object}
-use Rattle.kernel_model.specs.declared.Object.TheVariants.{Lock}
-use Rattle.kernel_model.specs.declared.SysCall.{SysCall}
-use Rattle.kernel_model.specs.declared.SysCall.TheVariants.{TakeLock}
+use Rattle.kernel_data.specs.declared.Need.{Need}
+use Rattle.kernel_data.specs.declared.Mode.{Mode}
+use Rattle.kernel_data.specs.declared.Object.{Object}
+use Rattle.kernel_data.specs.declared.Object.TheVariants.{Lock}
+use Rattle.kernel_data.specs.declared.SysCall.{SysCall}
+use Rattle.kernel_data.specs.declared.SysCall.TheVariants.{TakeLock}
 use Rattle.kernel_model.specs.Alone.{is_lock}
-use Rattle.kernel_model.specs.World.{processes}
+use Rattle.kernel_data.specs.World.{processes}
 use Rattle.kernel_model.specs.Laws.{waits_for_user}
 use Rattle.running_kernel.specs.Idle.{IsFreeOfUsers}
-use Rattle.kernel_model.specs.Locks.{LockTable, Hindrance, no_locks, hinders, lowest_holder, user_of, user_hindrance, hindrance_by, first_hindrance}
+use Rattle.kernel_model.specs.Locks.{LockTable, Hindrance, no_locks, hinders, lowest_holder}
+use Rattle.kernel_model.specs.Locks.{user_of, user_hindrance, hindrance_by, first_hindrance}
 
 none_found : (test : ℕ → Bool) (xs : List ℕ) → ((x : ℕ) → test x ≡ false) → find test xs ≡ None
 none_found test [] h = refl
@@ -23,10 +25,13 @@ and_false false = refl
 
 -- nobody holds anything
 nobody_holds : (p : ℕ) (o : Object) (mode : Mode) → lowest_holder no_locks p o mode ≡ None
-nobody_holds p o mode = none_found (λ q. not (q == p) && hinders o mode (no_locks q)) processes (λ q. and_false (not (q == p)))
+nobody_holds p o mode =
+    none_found (λ q. not (q == p) && hinders o mode (no_locks q)) processes
+    (λ q. and_false (not (q == p)))
 
 -- a need that nobody holds, and no user lock's holder hinders
-free_need : (users : ℕ → Option ℕ) (p q : ℕ) (n : Need) (ns : List Need) (found : Option ℕ) → lowest_holder no_locks p n.object n.mode ≡ found → found ≡ None →
+free_need : (users : ℕ → Option ℕ) (p q : ℕ) (n : Need) (ns : List Need) (found : Option ℕ) →
+    lowest_holder no_locks p n.object n.mode ≡ found → found ≡ None →
     cond n.by_user (user_hindrance q n.object (user_of users n.object)) None ≡ None →
     first_hindrance no_locks users p q (n ∷ ns) ≡ first_hindrance no_locks users p q ns
 free_need users p q n ns found is none user =
@@ -38,7 +43,9 @@ free_need users p q n ns found is none user =
 
 -- needs of which no user lock's holder hinders one
 free_hinders_none : (users : ℕ → Option ℕ) (p q : ℕ) (ns : List Need) →
-    ((n : Need) → Contains ns n → cond n.by_user (user_hindrance q n.object (user_of users n.object)) None ≡ None) → first_hindrance no_locks users p q ns ≡ None
+    ((n : Need) → Contains ns n →
+    cond n.by_user (user_hindrance q n.object (user_of users n.object)) None ≡ None) →
+    first_hindrance no_locks users p q ns ≡ None
 free_hinders_none users p q [] h = refl
 free_hinders_none users p q (n ∷ ns) h =
     free_need users p q n ns None (nobody_holds p n.object n.mode) refl (h n (0, omega arith, refl))
@@ -50,18 +57,23 @@ cond_none true x h = h refl
 cond_none false x h = refl
 
 -- a need of a call that no user lock's holder hinders
-unhindered : (users : ℕ → Option ℕ) (q : ℕ) (c : SysCall) (n : Need) → IsFreeOfUsers users q c → n.by_user ≡ waits_for_user c n.object →
+unhindered : (users : ℕ → Option ℕ) (q : ℕ) (c : SysCall) (n : Need) → IsFreeOfUsers users q c →
+    n.by_user ≡ waits_for_user c n.object →
     cond n.by_user (user_hindrance q n.object (user_of users n.object)) None ≡ None
-unhindered users q c n free user = cond_none n.by_user (user_hindrance q n.object (user_of users n.object)) (λ waits. of_object n.object (sym user ∙ waits))
+unhindered users q c n free user =
+    cond_none n.by_user (user_hindrance q n.object (user_of users n.object))
+    (λ waits. of_object n.object (sym user ∙ waits))
   where
     of_object : (o : Object) → waits_for_user c o ≡ true → user_hindrance q o (user_of users o) ≡ None
     of_object (Lock u) waits = free u waits
     of_object o waits = refl
 
-pub none_hinders : (t : LockTable) (users : ℕ → Option ℕ) (p q : ℕ) (c : SysCall) (ns : List Need) → t ≡ no_locks → IsFreeOfUsers users q c →
+pub none_hinders : (t : LockTable) (users : ℕ → Option ℕ) (p q : ℕ) (c : SysCall) (ns : List Need) →
+    t ≡ no_locks → IsFreeOfUsers users q c →
     ((n : Need) → Contains ns n → n.by_user ≡ waits_for_user c n.object) → None ≡ first_hindrance t users p q ns
 none_hinders t users p q c ns none free user =
-    sym (ap (λ (table : LockTable). first_hindrance table users p q ns) none ∙ free_hinders_none users p q ns (λ n has. unhindered users q c n free (user n has)))
+    sym (ap (λ (table : LockTable). first_hindrance table users p q ns) none
+    ∙ free_hinders_none users p q ns (λ n has. unhindered users q c n free (user n has)))
 
 -- no user lock's holder hinders a call that is no `lock`
 pub other_free : (users : ℕ → Option ℕ) (p : ℕ) (c : SysCall) → is_lock c ≡ false → IsFreeOfUsers users p c

@@ -1,5 +1,7 @@
 -- One look at the order of waiting.
-use Rattle.std.proofs.Common.{◌≡◌, ℕ, zero, suc, ◌+◌, ◌<◌, ◌≤◌, true, List, [], ◌∷◌, Option, Some, None, length, take, drop, get_or, set, refl, ap, subst, sym, ◌∙◌, IfSome, IfNone, arith}
+use Rattle.std.proofs.Common.{◌≡◌, ℕ, zero, suc, ◌+◌, ◌<◌, ◌≤◌, true, List, [], ◌∷◌, Option, Some}
+use Rattle.std.proofs.Common.{None, length, take, drop, get_or, set, refl, ap, subst, sym, ◌∙◌}
+use Rattle.std.proofs.Common.{IfSome, IfNone, arith}
 use Rattle.std.proofs.lemmas.Bool.Decides.{nat_tests}
 use Rattle.std.proofs.Math.ListN.{drop_of_length-le}
 use Rattle.std.proofs.lemmas.List.{drop-set, drop_more, get_or-take, length-take, take-set, take-take}
@@ -18,27 +20,14 @@ use Rattle.running_kernel.specs.Rests.{AreRested, AreRestedFrom}
 abbrev pub some_entry : Waiting
 some_entry = joined 0
 
--- the process of each entry can be
-pub process_at : (ws : List Waiting) (i : ℕ) (d : Waiting) → i < length ws → are_processes ws ≡ true → (get_or ws i d).process < 16
-process_at [] i d lt h = absurd (omega arith)
-process_at (w ∷ ws) zero d lt h = grind (arith, nat_tests)
-process_at (w ∷ ws) (suc i) d lt h = process_at ws i d (omega arith) (grind (arith, nat_tests))
-
--- no entry
-pub rested_none : (m : Meaning) (x : Placed) (old new : List Waiting) → old ≡ [] → new ≡ [] → AreRested m x old new
-rested_none m x old new e f = rw (e, f) (record {
-  value = refl;
-  counts = λ n h. refl;
-  processes = λ h. refl;
-  numbers = refl;
-})
-
 -- one more, before others
 rested_cons : (m : Meaning) (x : Placed) (v w : Waiting) (old new : List Waiting) → AreRested m x old new
     → entry_of w ≡ entry_with (entry_of v) (placed_blocker m x v.process) → w.process ≡ v.process → w.count ≤ v.count
     → AreRested m x (v ∷ old) (w ∷ new)
 rested_cons m x v w old new h value process count = record {
-  value = ap (λ e. e ∷ order_of new) value ∙ ap (λ es. entry_with (entry_of v) (placed_blocker m x v.process) ∷ es) h.value;
+  value =
+      ap (λ e. e ∷ order_of new) value
+      ∙ ap (λ es. entry_with (entry_of v) (placed_blocker m x v.process) ∷ es) h.value;
   counts = λ n k. grind (arith, nat_tests, h.counts n);
   processes = λ k. grind (arith, nat_tests, h.processes);
   numbers = ap (λ p. p ∷ numbers_of new) process ∙ ap (λ ps. v.process ∷ ps) h.numbers;
@@ -46,51 +35,46 @@ rested_cons m x v w old new h value process count = record {
 
 -- ---- the first that nothing blocks
 
--- past the last entry there is none
-pub first_none : (m : Meaning) (x : Placed) (ws : List Waiting) (i : ℕ) → length ws ≤ i → placed_first_free m x (order_of (drop i ws)) ≡ None
-first_none m x ws i e = ap (λ (vs : List Waiting). placed_first_free m x (order_of vs)) (drop_of_length-le ws e)
-
--- an entry that nothing blocks
-pub first_here : (m : Meaning) (x : Placed) (ws : List Waiting) (i : ℕ) → i < length ws → placed_blocker m x (get_or ws i some_entry).process ≡ None
-    → placed_first_free m x (order_of (drop i ws)) ≡ Some (get_or ws i some_entry).process
-first_here m x ws i lt free =
-    ap (λ (vs : List Waiting). placed_first_free m x (order_of vs)) (drop_more ws i some_entry lt)
-    ∙ ap (λ o. elim o as (λ _. Option ℕ) [ None ↦ Some (get_or ws i some_entry).process | Some b ↦ placed_first_free m x (order_of (drop (i + 1) ws)) ]) free
-
 -- an entry that is blocked
-pub first_later : (m : Meaning) (x : Placed) (ws : List Waiting) (i : ℕ) (b : Blocker) → i < length ws → placed_blocker m x (get_or ws i some_entry).process ≡ Some b
+pub first_later : (m : Meaning) (x : Placed) (ws : List Waiting) (i : ℕ) (b : Blocker) →
+    i < length ws → placed_blocker m x (get_or ws i some_entry).process ≡ Some b
     → placed_first_free m x (order_of (drop i ws)) ≡ placed_first_free m x (order_of (drop (i + 1) ws))
 first_later m x ws i b lt blocked =
     ap (λ (vs : List Waiting). placed_first_free m x (order_of vs)) (drop_more ws i some_entry lt)
-    ∙ ap (λ o. elim o as (λ _. Option ℕ) [ None ↦ Some (get_or ws i some_entry).process | Some b ↦ placed_first_free m x (order_of (drop (i + 1) ws)) ]) blocked
+    ∙ ap (λ o. elim o as (λ _. Option ℕ) [
+      | None ↦ Some (get_or ws i some_entry).process
+      | Some b ↦ placed_first_free m x (order_of (drop (i + 1) ws))
+    ]) blocked
 
 -- ---- the entries from a place on
 
--- past the last entry all have rested
-pub rested_past : (m : Meaning) (x : Placed) (ws : List Waiting) (i : ℕ) → length ws ≤ i → AreRestedFrom m x i ws ws
-rested_past m x ws i e = record {
-  before = refl;
-  from = rested_none m x (drop i ws) (drop i ws) (drop_of_length-le ws e) (drop_of_length-le ws e);
-}
-
 -- an entry is told its blocker, once all behind it rest
-pub rested_here : (m : Meaning) (x : Placed) (ws mid new : List Waiting) (i : ℕ) (w : Waiting) → i < length ws → AreRestedFrom m x (i + 1) ws mid → new ≡ set mid i w
-    → entry_of w ≡ entry_with (entry_of (get_or mid i some_entry)) (placed_blocker m x (get_or ws i some_entry).process) → w.process ≡ (get_or mid i some_entry).process → w.count ≤ (get_or mid i some_entry).count
+pub rested_here : (m : Meaning) (x : Placed) (ws mid new : List Waiting) (i : ℕ) (w : Waiting) →
+    i < length ws → AreRestedFrom m x (i + 1) ws mid → new ≡ set mid i w
+    → entry_of w ≡ entry_with (entry_of (get_or mid i some_entry))
+    (placed_blocker m x (get_or ws i some_entry).process) →
+    w.process ≡ (get_or mid i some_entry).process → w.count ≤ (get_or mid i some_entry).count
     → AreRestedFrom m x i ws new
 rested_here m x ws mid new i w lt h is value process count =
     let within : i < length mid = omega (arith, length-take (i + 1) mid, length-take (i + 1) ws, ap length h.before) in
     let same : get_or mid i some_entry ≡ get_or ws i some_entry =
-    sym (get_or-take (i + 1) mid i some_entry (omega arith)) ∙ ap (λ (vs : List Waiting). get_or vs i some_entry) h.before ∙ get_or-take (i + 1) ws i some_entry (omega arith) in
+    sym (get_or-take (i + 1) mid i some_entry (omega arith))
+    ∙ ap (λ (vs : List Waiting). get_or vs i some_entry) h.before
+    ∙ get_or-take (i + 1) ws i some_entry (omega arith) in
     record {
       before = ap (take i) is ∙ take-set mid i w ∙ shorter ws mid i h.before;
       from =
           rw (ap (drop i) is ∙ drop-set mid i w within, drop_more ws i some_entry lt)
           (rested_cons m x (get_or ws i some_entry) w (drop (i + 1) ws) (drop (i + 1) mid) h.from
-          (value ∙ ap (λ (v : Waiting). entry_with (entry_of v) (placed_blocker m x (get_or ws i some_entry).process)) same) (process ∙ ap (λ (v : Waiting). v.process) same) (rw same at count));
+          (value ∙ ap (λ (v : Waiting). entry_with (entry_of v)
+          (placed_blocker m x (get_or ws i some_entry).process)) same)
+          (process ∙ ap (λ (v : Waiting). v.process) same) (rw same at count));
     }
   where
     shorter : (xs ys : List Waiting) (k : ℕ) → take (k + 1) ys ≡ take (k + 1) xs → take k ys ≡ take k xs
-    shorter xs ys k e = sym (take-take k (k + 1) ys (omega arith)) ∙ ap (take k) e ∙ take-take k (k + 1) xs (omega arith)
+    shorter xs ys k e =
+        sym (take-take k (k + 1) ys (omega arith)) ∙ ap (take k) e
+        ∙ take-take k (k + 1) xs (omega arith)
 
 -- ---- the whole order
 
@@ -101,7 +85,9 @@ pub record IsOrder (clock : ℕ) (ws : List Waiting) : Type 0 where
   pub once : are_once (numbers_of ws) ≡ true
 
 -- it holds after a look
-pub order_stays : (m : Meaning) (x : Placed) (result : Option ℕ) (clock : ℕ) (ws new : List Waiting) → counts_within clock ws ≡ true → are_processes ws ≡ true → are_once (numbers_of ws) ≡ true
+pub order_stays :
+    (m : Meaning) (x : Placed) (result : Option ℕ) (clock : ℕ) (ws new : List Waiting) →
+    counts_within clock ws ≡ true → are_processes ws ≡ true → are_once (numbers_of ws) ≡ true
     → IfSome result (λ _. new ≡ ws) → IfNone result (AreRestedFrom m x 0 ws new) → IsOrder clock new
 order_stays m x None clock ws new counts processes once kept rested = record {
   counts = rested.from.counts clock counts;
@@ -115,11 +101,14 @@ order_stays m x (Some p) clock ws new counts processes once kept rested = record
 }
 
 -- another order takes the place of one that took another's place
-pub reordered : {C B M : Type 0} {P : _} (x y : Running C B M P) (ws : List Waiting) → y ≡ record x { order = y.order } → record y { order = ws } ≡ record x { order = ws }
-reordered {C} {B} {M} {P} x y ws e = ap (λ (z : Running C B M P). let after : Running C B M P = record z { order = ws } in after) e
+pub reordered : {C B M : Type 0} {P : _} (x y : Running C B M P) (ws : List Waiting) →
+    y ≡ record x { order = y.order } → record y { order = ws } ≡ record x { order = ws }
+reordered {C} {B} {M} {P} x y ws e =
+    ap (λ (z : Running C B M P). let after : Running C B M P = record z { order = ws } in after) e
 
 -- a running kernel with another order
-pub still_running : {C B M : Type 0} {P : _} (x y : Running C B M P) → IsRunning x → y ≡ record x { order = y.order } → IsOrder x.clock y.order → IsRunning y
+pub still_running : {C B M : Type 0} {P : _} (x y : Running C B M P) → IsRunning x →
+    y ≡ record x { order = y.order } → IsOrder x.clock y.order → IsRunning y
 still_running x y h same order = subst IsRunning (sym same) (record {
   sixteen = h.sixteen;
   callers = h.callers;

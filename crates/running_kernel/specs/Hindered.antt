@@ -1,9 +1,9 @@
 -- What hinders a step, as the code says it.
 use Rattle.std.specs.Prelude.{◌≡◌, ℕ, cond, List, Option, None, option_map}
-use Rattle.kernel_model.specs.declared.Need.{Need}
+use Rattle.kernel_data.specs.declared.Need.{Need}
 use Rattle.kernel_model.specs.GraftStep.{lock_user}
 use Rattle.kernel_model.specs.Meaning.{Meaning}
-use Rattle.kernel_model.specs.Objects.{Objects}
+use Rattle.kernel_data.specs.Objects.{Objects}
 use Rattle.kernel_model.specs.Kernel.{Blocker}
 use Rattle.kernel_model.specs.Locks as table
 use Rattle.placed_laws.specs.Placed.{Placed, placed_holds, placed_levels, placed_needs}

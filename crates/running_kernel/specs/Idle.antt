@@ -1,10 +1,10 @@
 -- A running kernel in which nothing waits, and a call that nothing can hinder there.
 use Rattle.std.specs.Prelude.{◌≡◌, ℕ, Bool, true, false, [], ◌∷◌, ◌++◌, Option, Some, None}
-use Rattle.kernel_model.specs.declared.Object.TheVariants.{Lock}
-use Rattle.kernel_model.specs.declared.SysCall.{SysCall}
+use Rattle.kernel_data.specs.declared.Object.TheVariants.{Lock}
+use Rattle.kernel_data.specs.declared.SysCall.{SysCall}
 use Rattle.kernel_model.specs.Laws.{waits_for_user}
 use Rattle.kernel_model.specs.Locks.{no_locks, user_hindrance}
-use Rattle.kernel_state.specs.Stores.{objects_of}
+use Rattle.call_pieces.specs.Stores.{objects_of}
 use Rattle.lock_table.specs.Masks.{held}
 use Rattle.call_pieces.specs.Works.{call_of}
 use Rattle.running_kernel.specs.declared.running.InFlight.{InFlight}

@@ -2,7 +2,7 @@
 use Rattle.std.specs.Prelude.{Bool, List, None, [], map, min, nat_le, nat_lt, not, option_map}
 use Rattle.std.specs.Prelude.{slice_index_or, true, ℕ, ◌&&◌, ◌+◌, ◌-◌, ◌==◌, ◌^◌, ◌∷◌}
 use Rattle.std.specs.List.{list_all, list_any}
-use Rattle.kernel_model.specs.Kernel.{Blocker, Entry}
+use Rattle.kernel_model.specs.Kernel.{Blocker, Waiter}
 use Rattle.running_kernel.specs.declared.order.Blocking.{Blocking}
 use Rattle.running_kernel.specs.declared.order.Waiting.{Waiting}
 
@@ -11,7 +11,7 @@ abbrev pub blocker_of : Blocking → Blocker
 blocker_of b = record { object = b.object; holder = b.holder; call = b.call }
 
 -- an entry of the order
-abbrev pub entry_of : Waiting → Entry
+abbrev pub entry_of : Waiting → Waiter
 entry_of w = record {
   process = w.process;
   blocker = option_map blocker_of w.blocker;
@@ -19,7 +19,7 @@ entry_of w = record {
 }
 
 -- the order
-abbrev pub order_of : List Waiting → List Entry
+abbrev pub order_of : List Waiting → List Waiter
 order_of ws = map entry_of ws
 
 -- no entry has waited for more ticks than this

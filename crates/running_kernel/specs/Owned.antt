@@ -1,6 +1,6 @@
 -- Whose the levels of a chain are.
 use Rattle.std.specs.Prelude.{◌≡◌, ℕ, List, [], ◌∷◌, map, ⊤}
-use Rattle.undo_calls.specs.UndoLevels.{Logged, found_of, innermost}
+use Rattle.graft_levels.specs.UndoLevels.{Logged, found_of, innermost}
 use Rattle.graft_levels.specs.declared.GraftLevel.{GraftLevel}
 use Rattle.graft_levels.specs.Chains.{outer}
 use Rattle.placed_laws.specs.Owners.{AreOwn}

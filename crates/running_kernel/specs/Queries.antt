@@ -1,7 +1,7 @@
 -- What is asked of a running kernel.
 use Rattle.std.specs.Prelude.{ℕ, suc, List, [], ◌∷◌, length, Option, Some, None}
-use Rattle.kernel_model.specs.declared.Note.{Note}
-use Rattle.kernel_model.specs.declared.Note.TheVariants.{InGraft}
+use Rattle.kernel_data.specs.declared.Note.{Note}
+use Rattle.kernel_data.specs.declared.Note.TheVariants.{InGraft}
 use Rattle.placed_laws.specs.Placed.{PlacedLevel}
 
 -- the note of a call in a graft, if it is in one

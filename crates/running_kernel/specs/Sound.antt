@@ -1,6 +1,6 @@
 -- What must hold of a running kernel for its calls.
 use Rattle.std.specs.Prelude.{◌≡◌, ℕ, ◌<◌, List, All}
-use Rattle.kernel_model.specs.declared.Need.{Need}
+use Rattle.kernel_data.specs.declared.Need.{Need}
 use Rattle.kernel_model.specs.Laws.{IsInRange}
 use Rattle.kernel_model.specs.Meaning.{Meaning}
 use Rattle.placed_laws.specs.Placed.{placed_needs}

@@ -1,15 +1,15 @@
 -- The kernel in place that a running kernel is.
 use Rattle.std.specs.Prelude.{◌≡◌, ℕ, ◌<◌, true, Bool, List, [], Option, Some, None, map}
 use Rattle.std.specs.Prelude.{option_map, length, slice_index_or}
-use Rattle.kernel_model.specs.declared.Note.{Note}
-use Rattle.kernel_model.specs.World.{Blocks}
+use Rattle.kernel_data.specs.declared.Note.{Note}
+use Rattle.kernel_data.specs.World.{Blocks}
 use Rattle.kernel_model.specs.Kernel.{Kernel}
 use Rattle.kernel_model.specs.Sound.{ImagesAreLoaded}
 use Rattle.kernel_model.specs.Meaning.{Meaning}
 use Rattle.call_pieces.specs.Works.{stage_of}
-use Rattle.kernel_state.specs.Stores.{world_of_store, objects_of}
+use Rattle.call_pieces.specs.Stores.{world_of_store, objects_of}
 use Rattle.graft_levels.specs.declared.Chain.{Chain}
-use Rattle.graft_loader.specs.Slots.{table_of}
+use Rattle.graft_levels.specs.Slots.{table_of}
 use Rattle.graft_levels.specs.Chains.{levels_of}
 use Rattle.graft_levels.specs.Calls.{IsPlaced, AreInside}
 use Rattle.placed_laws.specs.Placed.{PlacedCall, PlacedLevel, Placed, PlacedRun, bare}

@@ -2,7 +2,7 @@
 use Rattle.std.proofs.Common.{◌≡◌, ℕ, length}
 use Rattle.std.specs.Prelude.{replicate}
 use Rattle.std.proofs.lemmas.List.{length-replicate}
-use Rattle.kernel_model.specs.World.{World, Blocks}
+use Rattle.kernel_data.specs.World.{World, Blocks}
 use Rattle.kernel_model.specs.Sound.{HasWholeBlocks}
 
 -- blocks of so many zeros

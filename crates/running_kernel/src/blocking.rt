@@ -2,23 +2,23 @@
 
 ghost use Rattle.std.specs.Prelude.{◌≡◌, ◌<◌, ℕ, true, None, Contains, option_map, All, List, length};
 ghost use Rattle.kernel_model.specs.Alone.{is_lock};
-ghost use Rattle.kernel_model.specs.Bare.{call_with};
+ghost use Rattle.kernel_data.specs.Bare.{call_with};
 ghost use Rattle.kernel_model.specs.GraftStep.{next_needs, lock_user};
-ghost use Rattle.kernel_model.specs.Objects.{Things};
+ghost use Rattle.kernel_data.specs.Objects.{Things};
 ghost use Rattle.call_pieces.specs.Works.{IsDue, call_of, stage_of};
 ghost use Rattle.graft_levels.specs.Calls.{AreSound};
 ghost use Rattle.graft_levels.specs.Chains.{levels_in};
-ghost use Rattle.graft_loader.specs.Slots.{table_of};
+ghost use Rattle.graft_levels.specs.Slots.{table_of};
 ghost use Rattle.placed_laws.specs.Placed.{placed_blocker};
 ghost use Rattle.running_kernel.specs.Orders.{blocker_of};
 ghost use Rattle.running_kernel.specs.Sound.{AreNeeds, IsSoundFor};
 ghost use Rattle.running_kernel.specs.Views.{placed_of};
-ghost use Rattle.kernel_model.specs.declared.Need.{Need as Needed};
-ghost use Rattle.kernel_model.specs.declared.Object.TheVariants.{Lock};
+ghost use Rattle.kernel_data.specs.declared.Need.{Need as Needed};
+ghost use Rattle.kernel_data.specs.declared.Object.TheVariants.{Lock};
 ghost use Rattle.kernel_model.specs.Laws.{IsInRange, waits_for_user};
 ghost use Rattle.kernel_model.specs.Locks.{LockTable as Table, hindrance_by, lowest_holder, user_hindrance, user_of};
-ghost use Rattle.undo_calls.specs.UndoLevels.{Logged};
-ghost use Rattle.kernel_state.specs.Stores.{world_of_store, queue_of, objects_of};
+ghost use Rattle.graft_levels.specs.UndoLevels.{Logged};
+ghost use Rattle.call_pieces.specs.Stores.{world_of_store, queue_of, objects_of};
 ghost use Rattle.lock_table.specs.Masks.{held};
 ghost use Rattle.running_kernel.specs.Idle.{IsIdle, IsPlain, IsFreeOfUsers};
 ghost use Rattle.running_kernel.specs.Hindered.{hindrance_of, blocking_by, IsFirstHindrance, IsStepHindrance};
@@ -26,12 +26,9 @@ ghost use Rattle.running_kernel.specs.Hindered.{hindrance_of, blocking_by, IsFir
 use crate::flights::{flight, number_of};
 use crate::order::Blocking;
 use crate::running::{Flight, Running};
-use call_pieces::{Calls, Needs, Work};
-use graft_levels::Chain;
-use graft_loader::Images;
-use graft_points::Policy;
-use kernel_model::{BareCall, Need, Object};
-use kernel_state::Store;
+use call_pieces::{Calls, Needs, Policy, Store, Work};
+use graft_levels::{Chain, Images};
+use kernel_data::{BareCall, Need, Object};
 use lock_table::LockTable;
 
 /// An object that a step needs, and what holds it.

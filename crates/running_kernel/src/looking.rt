@@ -8,8 +8,7 @@ ghost use Rattle.running_kernel.specs.Views.{placed_of};
 
 use crate::flights::flight;
 use crate::running::Running;
-use call_pieces::Calls;
-use graft_points::Policy;
+use call_pieces::{Calls, Policy};
 
 /// Where the first segment begins in memory.
 const FIRST_SEGMENT: u32 = 262_144;

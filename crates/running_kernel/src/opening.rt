@@ -1,25 +1,22 @@
 //! How a kernel begins again, and how images are added.
 
 ghost use Rattle.std.specs.Prelude.{◌≡◌, ℕ, ◌<◌, ◌≤◌, true, None, Some, is_some, length, slice_index_or, slice_set};
-ghost use Rattle.kernel_model.specs.declared.FileRow.{FileRow as Row};
-ghost use Rattle.kernel_model.specs.Directory.{lies_on_disk};
+ghost use Rattle.kernel_data.specs.declared.FileRow.{FileRow};
+ghost use Rattle.kernel_data.specs.Directory.{lies_on_disk};
 ghost use Rattle.kernel_model.specs.Kernel.{Kernel};
 ghost use Rattle.kernel_model.specs.Opening.{opening_kernel, opening_policy};
-ghost use Rattle.kernel_model.specs.Session as session;
+ghost use Rattle.kernel_model.specs.ImageLines as image_lines;
 ghost use Rattle.kernel_model.specs.Sound.{IsAtRest};
-ghost use Rattle.graft_points.specs.Shelf.{pol_of, first_choice};
-ghost use Rattle.kernel_state.specs.Stores.{world_of_store, views_of};
-ghost use Rattle.kernel_state.specs.Sound.{world_for};
+ghost use Rattle.call_pieces.specs.Shelf.{pol_of, first_choice};
+ghost use Rattle.call_pieces.specs.Stores.{world_of_store, views_of};
+ghost use Rattle.call_pieces.specs.Sound.{world_for};
 ghost use Rattle.placed_laws.specs.Stands.{StandsFor};
 ghost use Rattle.running_kernel.specs.Sound.{IsSound};
 ghost use Rattle.running_kernel.specs.Views.{placed_of, IsRunning, IsQuiet};
 
 use crate::running::Running;
-use call_pieces::Calls;
-use graft_loader::Loaded;
-use graft_points::Policy;
-use kernel_state::Setup;
-use mem_disk::Directory;
+use call_pieces::{Calls, Directory, Policy, Setup};
+use graft_levels::Loaded;
 
 impl<C: Calls, B: Policy> Running<C, B> {
     /// The kernel begins again, on a disk of this size with this directory: no call is in flight,
@@ -30,7 +27,7 @@ impl<C: Calls, B: Policy> Running<C, B> {
         requires size_least { 1 ≤ size }
         requires size_most { size ≤ 4096 }
         requires rows { length dir ≤ 16 }
-        requires files { (n : ℕ) (r : Row) → slice_index_or dir n None ≡ Some r →
+        requires files { (n : ℕ) (r : FileRow) → slice_index_or dir n None ≡ Some r →
             lies_on_disk size r ≡ true }
         requires stock { pol_of (views_of self.old.store) first_choice ≡ opening_policy }
         requires running { IsRunning self.old }
@@ -64,10 +61,10 @@ impl<C: Calls, B: Policy> Running<C, B> {
         requires free { (placed_of self.old).images slot ≡ None }
         ensures stands { (k : Kernel) → StandsFor C.Meaning.meaning (placed_of self.old) k →
             StandsFor C.Meaning.meaning (placed_of self.new)
-            (session.add_image slot image k) }
+            (image_lines.add_image slot image k) }
         ensures rests { (k : Kernel) → StandsFor C.Meaning.meaning (placed_of self.old) k →
             IsAtRest C.Meaning.meaning k →
-            IsAtRest C.Meaning.meaning (session.add_image slot image k) }
+            IsAtRest C.Meaning.meaning (image_lines.add_image slot image k) }
         ensures sound { IsSound C.Meaning.meaning self.new }
         ensures changed { self.new
             ≡ record self.old { images = slice_set self.old.images slot (Some image) } }

@@ -6,7 +6,7 @@ ghost use Rattle.std.specs.List.{list_any};
 ghost use Rattle.running_kernel.specs.Orders.{joined, later};
 
 use arrayvec::ArrayVec;
-use kernel_model::{Object, PROCESSES};
+use kernel_data::{Object, PROCESSES};
 use std::marker::Model;
 
 /// What blocks a call.

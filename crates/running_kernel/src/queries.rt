@@ -1,8 +1,8 @@
 //! What an event asks of a running kernel.
 
 ghost use Rattle.std.specs.Prelude.{◌≡◌, ◌<◌, true, [], length, is_some, option_map, IfSome};
-ghost use Rattle.kernel_model.specs.declared.Note.TheVariants.{InGraft};
-ghost use Rattle.kernel_model.specs.Bare.{note_with};
+ghost use Rattle.kernel_data.specs.declared.Note.TheVariants.{InGraft};
+ghost use Rattle.kernel_data.specs.Bare.{note_with};
 ghost use Rattle.kernel_model.specs.Events.{in_order, wanted};
 ghost use Rattle.kernel_model.specs.Locks.{outermost_holding};
 ghost use Rattle.lock_table.specs.Numbers.{is_in_range};
@@ -15,10 +15,9 @@ ghost use Rattle.running_kernel.specs.Views.{placed_of, call_at, chain_of};
 use crate::flights::{count_of, flight, number_of};
 use crate::running::Running;
 use crate::waits::is_same_object;
-use call_pieces::{Calls, Needs};
+use call_pieces::{Calls, Needs, Policy};
 use graft_levels::{GraftLevel, Needs as GraftNeeds};
-use graft_points::Policy;
-use kernel_model::{BareNote, Mode, Need, Object};
+use kernel_data::{BareNote, Mode, Need, Object};
 
 /// Whether an object's numbers are in their ranges.
 #[tactic(auto, unfolding(lock_table::specs::Numbers::is_in_range))]
@@ -53,7 +52,12 @@ fn wanted_in(needs: &[Need], object: Object) -> Mode
 fn note_of(innermost: &GraftLevel, number: u32, count: u8) -> BareNote
     ensures { note_with result [] ≡ InGraft number innermost.now.owner innermost.now.point count }
 {
-    BareNote::InGraft(number, innermost.owner, innermost.point, count)
+    BareNote::InGraft {
+        number,
+        installer: innermost.owner,
+        point: innermost.point,
+        depth: count,
+    }
 }
 
 impl<C: Calls, B: Policy> Running<C, B> {

@@ -2,22 +2,18 @@
 
 ghost use Rattle.std.specs.Prelude.{◌≡◌, [], IfOk, replicate, ℕ};
 ghost use Rattle.kernel_model.specs.Sound.{ImagesAreLoaded};
-ghost use Rattle.kernel_state.specs.Stores.{objects_of};
-ghost use Rattle.graft_loader.specs.Slots.{table_of};
+ghost use Rattle.call_pieces.specs.Stores.{objects_of};
+ghost use Rattle.graft_levels.specs.Slots.{table_of};
 ghost use Rattle.running_kernel.specs.Views.{flight_of, no_flight, IsRunning, IsQuiet};
 
 use crate::order::Order;
 use crate::slots::Slot;
-use call_pieces::{Calls, Work};
-use graft_levels::{Chain, Levels};
-use graft_loader::Images;
-use graft_points::Policy;
-use kernel_model::{NoMemory, PROCESSES};
-use kernel_state::Store;
+use call_pieces::{Calls, Policy, Store, Work};
+use graft_levels::{Chain, Images, Levels, UndoStack};
+use kernel_data::{NoMemory, PROCESSES};
 use lock_table::LockTable;
 use std::alloc::Global;
 use std::marker::PhantomData;
-use undo_calls::UndoStack;
 
 /// A call in flight.
 #[derive(Drop)]

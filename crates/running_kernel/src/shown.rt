@@ -1,12 +1,12 @@
 //! The rows that show the calls in flight.
 
 ghost use Rattle.std.specs.Prelude.{◌≡◌, ℕ, ◌==◌, ◌<◌, ◌≤◌, List, Some, find, length, map, reverse, slice_get};
-ghost use Rattle.kernel_model.specs.Kernel.{Entry};
-ghost use Rattle.kernel_model.specs.Locks.{LockTable as Table};
-ghost use Rattle.kernel_model.specs.Objects.{Things};
+ghost use Rattle.kernel_model.specs.Kernel.{Waiter};
+ghost use Rattle.kernel_model.specs.Locks.{LockTable};
+ghost use Rattle.kernel_data.specs.Objects.{Things};
 ghost use Rattle.kernel_model.specs.RawRows.{rows_of_levels, top_of, undo_row, wait_by};
 ghost use Rattle.kernel_model.specs.UndoLog.{numbered_log};
-ghost use Rattle.undo_calls.specs.UndoLevels.{Logged, log_of};
+ghost use Rattle.graft_levels.specs.UndoLevels.{Logged, log_of};
 ghost use Rattle.graft_levels.specs.Chains.{levels_in};
 ghost use Rattle.placed_laws.specs.PlacedRows.{placed_call_row, placed_level_rows, placed_undo_rows};
 ghost use Rattle.running_kernel.specs.Orders.{entry_of, order_of};
@@ -16,11 +16,9 @@ ghost use Rattle.running_kernel.specs.Views.{placed_of};
 use crate::flights::{count_of, flight};
 use crate::order::Waiting;
 use crate::running::Running;
-use call_pieces::Calls;
-use graft_levels::Levels;
-use graft_points::Policy;
-use kernel_model::{RawRow, TopRow, WaitRow};
-use undo_calls::UndoStack;
+use call_pieces::{Calls, Policy};
+use graft_levels::{Levels, UndoStack};
+use kernel_data::{RawRow, TopRow, WaitRow};
 
 /// What an entry waits for.
 fn wait_of(waiting: &Waiting) -> Option<WaitRow>
@@ -36,7 +34,7 @@ fn wait_of(waiting: &Waiting) -> Option<WaitRow>
 
 /// What process p waits for.
 fn wait_row(entries: &[Waiting], p: u8) -> Option<WaitRow>
-    ensures { result ≡ wait_by (find (λ (e : Entry). e.process == p) (order_of entries.now)) }
+    ensures { result ≡ wait_by (find (λ (e : Waiter). e.process == p) (order_of entries.now)) }
 {
     let (first, rest) = entries.split_first()?;
     if first.process == p {
@@ -47,7 +45,7 @@ fn wait_row(entries: &[Waiting], p: u8) -> Option<WaitRow>
 
 /// The innermost of these levels.
 fn top_row(levels: &Levels) -> Option<TopRow>
-    ensures { (p : ℕ) (ram : List ℕ) (t : Table) (log : List (List Logged)) (w : Things) →
+    ensures { (p : ℕ) (ram : List ℕ) (t : LockTable) (log : List (List Logged)) (w : Things) →
         result ≡ top_of (levels_in p ram t levels.now log w) }
 {
     let level = levels.innermost()?;
@@ -61,12 +59,18 @@ fn top_row(levels: &Levels) -> Option<TopRow>
 /// Level d of process p, 0 being the outermost.
 fn row_of_level(levels: &Levels, p: u8, d: u8) -> RawRow
     requires { d < length levels.now }
-    ensures { (ram : List ℕ) (t : Table) (log : List (List Logged)) (w : Things) →
+    ensures { (ram : List ℕ) (t : LockTable) (log : List (List Logged)) (w : Things) →
         slice_get (reverse (rows_of_levels p (levels_in p ram t levels.now log w))) d
         ≡ Some result }
 {
     let level = &levels.as_slice()[d as usize];
-    RawRow::Level(p, d, level.owner, level.point, level.count)
+    RawRow::Level {
+        process: p,
+        depth: d,
+        installer: level.owner,
+        point: level.point,
+        taken: level.count,
+    }
 }
 
 /// Record i of process p, 0 being the newest.
@@ -76,7 +80,11 @@ fn row_of_record(log: &UndoStack, p: u8, i: u8) -> RawRow
 {
     let records = log.list();
     let place = records.len() - 1 - i as usize;
-    RawRow::Undo(p, log.owner(place), records[place])
+    RawRow::Undo {
+        process: p,
+        depth: log.owner(place),
+        inverse: records[place],
+    }
 }
 
 impl<C: Calls, B: Policy> Running<C, B> {
@@ -91,7 +99,12 @@ impl<C: Calls, B: Policy> Running<C, B> {
             return None;
         };
         let waits = wait_row(self.order.entries(), p);
-        Some(RawRow::Call(p, call.number, waits, top_row(&flight.chain.levels)))
+        Some(RawRow::Call {
+            process: p,
+            number: call.number,
+            wait: waits,
+            top: top_row(&flight.chain.levels),
+        })
     }
 
     /// How many levels the call of process p has.

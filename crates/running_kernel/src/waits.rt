@@ -2,12 +2,12 @@
 
 ghost use Rattle.std.specs.Prelude.{◌≡◌, ◌<◌, ◌≤◌, ◌+◌, ◌++◌, true, None, IfSome, IfNone, option_map, length};
 ghost use Rattle.kernel_model.specs.Blocking.{same_blocker, same_call};
-ghost use Rattle.kernel_model.specs.Objects.{same_object};
+ghost use Rattle.kernel_data.specs.Objects.{same_object};
 ghost use Rattle.kernel_model.specs.Events.{object_kind};
 ghost use Rattle.kernel_model.specs.Settle.{entry_with};
 ghost use Rattle.placed_laws.specs.PlacedEvents.{expired_by, is_over_by};
 ghost use Rattle.placed_laws.specs.PlacedSteps.{placed_first_free, placed_rested_order, with_placed_order};
-ghost use Rattle.kernel_model.specs.World.{World};
+ghost use Rattle.kernel_data.specs.World.{World};
 ghost use Rattle.running_kernel.specs.Orders.{blocker_of, entry_of, order_of, are_processes};
 ghost use Rattle.running_kernel.specs.Orders.{counts_within, patience_of, numbers_of};
 ghost use Rattle.running_kernel.specs.Rests.{GoesFrom};
@@ -16,12 +16,11 @@ ghost use Rattle.running_kernel.specs.Views.{placed_of, IsRunning, Simulates};
 
 use crate::order::{Blocking, Order, Waiting};
 use crate::running::Running;
-use call_pieces::Calls;
-use graft_points::Policy;
-use kernel_model::Object;
+use call_pieces::{Calls, Policy};
+use kernel_data::Object;
 
 /// Whether two objects are one.
-#[tactic(auto, unfolding(kernel_model::specs::Objects::same_object))]
+#[tactic(auto, unfolding(kernel_data::specs::Objects::same_object))]
 pub(crate) fn is_same_object(a: Object, b: Object) -> bool
     ensures { result ≡ same_object a b }
 {

@@ -1,11 +1,13 @@
 -- Lemmas on hex digits: the crate `hex` decodes them as the definitions do.
-use Rattle.std.proofs.Common.{◌≡◌, ◌∙◌, ◌&&◌, true, false, is_some, ℕ, ◌+◌, ◌*◌, ◌%◌, Option, Some, None, Result, Ok, Err, MatchResult, List, [], ◌∷◌, length, refl, arith, ap}
+use Rattle.std.proofs.Common.{◌≡◌, ◌∙◌, ◌&&◌, true, false, is_some, ℕ, ◌+◌, ◌*◌, ◌%◌, Option, Some}
+use Rattle.std.proofs.Common.{None, Result, Ok, Err, MatchResult, List, [], ◌∷◌, length, refl}
+use Rattle.std.proofs.Common.{arith, ap}
 use Rattle.std.specs.Prelude.{is_ok}
 use Rattle.std.specs.Result.{result_ok}
 use Rattle.std.proofs.lemmas.Bool.Decides.{nat_tests}
 use Rattle.hex.specs.declared.error.FromHexError.{FromHexError}
 use Rattle.hex.specs.Hex.{hex_digit_value, digit_or_error, decode_pairs, decode_of, decode_sized, ◌>>=◌}
-use Rattle.kernel_model.specs.Bytes.{hex_value, byte_before, hex_bytes}
+use Rattle.script_model.specs.Bytes.{hex_value, byte_before, hex_bytes}
 use Rattle.std.specs.List.{list_all}
 use Rattle.script_text.specs.Words.{decoded, is_hex_digit, bytes_or_none}
 
@@ -15,19 +17,24 @@ same_value c = grind (arith, nat_tests)
 
 -- a byte of two digits before others
 pair_step : (h l : Option ℕ) (c d i : ℕ) (rest : Result (List ℕ) FromHexError)
-    → result_ok ((digit_or_error c i h >>= λ a. (digit_or_error d (i + 1) l >>= λ b. Ok (a * 16 + b))) >>= λ byte. (rest >>= λ bytes. Ok (byte ∷ bytes)))
+    → result_ok ((digit_or_error c i h >>= λ a. (digit_or_error d (i + 1) l >>=
+    λ b. Ok (a * 16 + b))) >>= λ byte. (rest >>= λ bytes. Ok (byte ∷ bytes)))
     ≡ byte_before h l (result_ok rest)
 pair_step None l c d i rest = refl
 pair_step (Some a) None c d i rest = refl
 pair_step (Some a) (Some b) c d i (Err e) = refl
-pair_step (Some a) (Some b) c d i (Ok bytes) = let e : a * 16 + b ≡ 16 * a + b = omega arith in ap (λ n. Some (n ∷ bytes)) e
+pair_step (Some a) (Some b) c d i (Ok bytes) =
+    let e : a * 16 + b ≡ 16 * a + b = omega arith in
+    ap (λ n. Some (n ∷ bytes)) e
 
 -- pairs of digits
 decode_pairs-ok : (i : ℕ) (text : List ℕ) → result_ok (decode_pairs i text) ≡ hex_bytes text
 unfolding decode_pairs
 decode_pairs-ok i [] = refl
 decode_pairs-ok i (c ∷ []) = refl
-decode_pairs-ok i (c ∷ d ∷ text) = rw (← same_value c, ← same_value d, ← decode_pairs-ok (i + 2) text) (pair_step (hex_digit_value c) (hex_digit_value d) c d i (decode_pairs (i + 2) text))
+decode_pairs-ok i (c ∷ d ∷ text) =
+    rw (← same_value c, ← same_value d, ← decode_pairs-ok (i + 2) text)
+    (pair_step (hex_digit_value c) (hex_digit_value d) c d i (decode_pairs (i + 2) text))
 
 byte_before-none : (h l : Option ℕ) → byte_before h l None ≡ None
 byte_before-none None l = refl
@@ -38,7 +45,8 @@ byte_before-none (Some h) (Some l) = refl
 pub hex_bytes-odd : (text : List ℕ) → length text % 2 ≡ 1 → hex_bytes text ≡ None
 hex_bytes-odd [] odd = absurd (omega (arith, odd))
 hex_bytes-odd (c ∷ []) odd = refl
-hex_bytes-odd (c ∷ d ∷ text) odd = rw (hex_bytes-odd text (omega (arith, odd))) (byte_before-none (hex_value c) (hex_value d))
+hex_bytes-odd (c ∷ d ∷ text) odd =
+    rw (hex_bytes-odd text (omega (arith, odd))) (byte_before-none (hex_value c) (hex_value d))
 
 -- a byte of two digits before others is one where all are digits, and only there
 byte_before-is : (h l : Option ℕ) (rest : Option (List ℕ)) →
@@ -74,7 +82,8 @@ decode_sized-ok text n e = grind (arith, nat_tests, decode_pairs-ok 0 text)
 
 -- what `decode_to_slice` says of its bytes
 pub decoded-sized : (r : Result (List ℕ) FromHexError) (result : Result (Unit {0}) FromHexError) (out : List ℕ)
-    → MatchResult r (λ bytes. (result ≡ Ok tt) × (out ≡ bytes)) (λ e. result ≡ Err e) → decoded (is_ok result) out ≡ result_ok r
+    → MatchResult r (λ bytes. (result ≡ Ok tt) × (out ≡ bytes)) (λ e. result ≡ Err e) →
+    decoded (is_ok result) out ≡ result_ok r
 decoded-sized (Ok bytes) result out h = rw (h.0, h.1) refl
 decoded-sized (Err e) result out h = rw h refl
 

@@ -1,14 +1,15 @@
 -- Lemmas on whole lines.
 use Rattle.std.proofs.Common.{◌≡◌, ◌≤◌, ◌∙◌, ℕ, Bool, false, Option, List, length, drop, ap, arith}
 use Rattle.std.proofs.lemmas.Bool.Decides.{nat_tests}
-use Rattle.kernel_model.specs.declared.Command.{Command}
-use Rattle.kernel_model.specs.Script.{words_of, first_word, other_words, command_named, entry_at, is_blank, parsed_line}
+use Rattle.script_model.specs.declared.Command.{Command}
+use Rattle.script_model.specs.Script.{words_of, first_word, other_words, command_named, entry_at, is_blank, parsed_line}
 use Rattle.script_text.specs.Words.{word_length, front_word, words_left}
 use Rattle.script_text.proofs.Reading.{words_of-first}
 
 -- a line by its first word and what follows it
 pub entry_at-first : (booted : Bool) (line : List ℕ) (e : ℕ) → e ≡ word_length line
-    → entry_at booted (other_words (words_of line)) (command_named (first_word (words_of line))) ≡ entry_at booted (words_left (drop e line)) (command_named (front_word line))
+    → entry_at booted (other_words (words_of line)) (command_named (first_word (words_of line)))
+    ≡ entry_at booted (words_left (drop e line)) (command_named (front_word line))
 entry_at-first booted line e is =
     rw is (ap (λ words. entry_at booted (other_words words) (command_named (first_word words))) (words_of-first line))
 

@@ -9,10 +9,12 @@ use Rattle.memchr.specs.Find.{IsFirstByte, TakesFirst, first_of, is_byte, places
 use Rattle.memchr.proofs.lemmas.ValueLemmas.{IsFirstByte-value}
 
 -- the first place at which a byte is a newline, in the words of that crate
-position-is : (bytes : List ℕ) (found : Option ℕ) → position (λ b. b == 10) bytes ≡ found → IsFirstByte (is_byte 10) bytes found
+position-is : (bytes : List ℕ) (found : Option ℕ) → position (λ b. b == 10) bytes ≡ found →
+    IsFirstByte (is_byte 10) bytes found
 position-is bytes None is =
     let past : length bytes ≤ position_or_len (λ b. b == 10) bytes = grind (arith, nat_tests, is) in
-    λ k low high passes. true≢false (sym passes ∙ fails_before_first (λ b. b == 10) bytes k 0 (omega (arith, high, past)))
+    λ k low high passes. true≢false
+    (sym passes ∙ fails_before_first (λ b. b == 10) bytes k 0 (omega (arith, high, past)))
 position-is bytes (Some n) is =
     let at = position-Some (λ b. b == 10) bytes n 0 is in (
       record {
@@ -30,6 +32,9 @@ taken-first all rest None taken = sym (ap first_of taken.0)
 taken-first all rest (Some n) taken = sym (ap first_of taken)
 
 -- the first of all places with a newline
-pub first_newline-is : (bytes rest : List ℕ) (found : Option ℕ) → TakesFirst (places (is_byte 10) bytes) found rest → found ≡ position (λ b. b == 10) bytes
+pub first_newline-is : (bytes rest : List ℕ) (found : Option ℕ) →
+    TakesFirst (places (is_byte 10) bytes) found rest → found ≡ position (λ b. b == 10) bytes
 first_newline-is bytes rest found taken =
-    taken-first (places (is_byte 10) bytes) rest found taken ∙ sym (IsFirstByte-value (is_byte 10) bytes (position (λ b. b == 10) bytes) (position-is bytes (position (λ b. b == 10) bytes) refl))
+    taken-first (places (is_byte 10) bytes) rest found taken
+    ∙ sym (IsFirstByte-value (is_byte 10) bytes (position (λ b. b == 10) bytes)
+    (position-is bytes (position (λ b. b == 10) bytes) refl))

@@ -1,5 +1,6 @@
 -- Digits at the front of a text are its first word.
-use Rattle.std.proofs.Common.{◌≡◌, ◌≤◌, ◌<◌, ◌^◌, ◌==◌, ◌∙◌, ℕ, suc, Bool, true, false, List, ◌∷◌, length, take, drop, get_or, refl, arith, ap, sym}
+use Rattle.std.proofs.Common.{◌≡◌, ◌≤◌, ◌<◌, ◌^◌, ◌==◌, ◌∙◌, ℕ, suc, Bool, true, false, List, ◌∷◌}
+use Rattle.std.proofs.Common.{length, take, drop, get_or, refl, arith, ap, sym}
 use Rattle.std.specs.List.{list_all}
 use Rattle.std.proofs.Math.Seq.{drop-cons}
 use Rattle.std.proofs.lemmas.Bool.{true≢false, true_from_ne_false}
@@ -8,7 +9,7 @@ use Rattle.std.proofs.lemmas.Grind.{common_steps}
 use Rattle.std.proofs.lemmas.List.{get_or-take}
 use Rattle.std.proofs.lemmas.List.Folds.{list_all_at}
 use Rattle.std.proofs.lemmas.List.Sums.{position_or_len_is}
-use Rattle.kernel_model.specs.Bytes.{is_digit, digits_value}
+use Rattle.script_model.specs.Bytes.{is_digit, digits_value}
 use Rattle.script_text.specs.Words.{word_length, IsFirstNumber}
 
 -- a digit is no space
@@ -16,7 +17,8 @@ not_space : (byte : ℕ) → is_digit byte ≡ true → (byte == 32) ≡ false
 not_space byte digit = grind (arith, nat_tests)
 
 -- no space stands among digits
-digit_at : (text : List ℕ) (size k : ℕ) → k < size → size ≤ length text → list_all is_digit (take size text) ≡ true → (get_or text k 0 == 32) ≡ false
+digit_at : (text : List ℕ) (size k : ℕ) → k < size → size ≤ length text →
+    list_all is_digit (take size text) ≡ true → (get_or text k 0 == 32) ≡ false
 digit_at text size k below within digits =
     let inside : k < length (take size text) = grind (arith, common_steps) in
     let is = get_or-take size text k 0 below in
@@ -24,12 +26,14 @@ digit_at text size k below within digits =
     (λ no. true≢false (sym digits ∙ list_all_at is_digit (take size text) k 0 inside (ap is_digit is ∙ no))))
 
 -- where a word ends before its text does, there is a space
-space_at : (text : List ℕ) (at : ℕ) → at < length text → word_length (drop at text) ≡ 0 → (get_or text at 0 == 32) ≡ true
+space_at : (text : List ℕ) (at : ℕ) → at < length text → word_length (drop at text) ≡ 0 →
+    (get_or text at 0 == 32) ≡ true
 space_at text at within ends =
     let is = drop-cons text at 0 within in
     by (get_or text at 0 == 32) refl (ap word_length (sym is) ∙ ends)
   where
-    by : (t : Bool) → (get_or text at 0 == 32) ≡ t → word_length (get_or text at 0 ∷ drop (suc at) text) ≡ 0 → (get_or text at 0 == 32) ≡ true
+    by : (t : Bool) → (get_or text at 0 == 32) ≡ t →
+        word_length (get_or text at 0 ∷ drop (suc at) text) ≡ 0 → (get_or text at 0 == 32) ≡ true
     by true here size = here
     by false here size = absurd (grind (arith, nat_tests, here, size))
 

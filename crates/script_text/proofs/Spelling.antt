@@ -1,13 +1,14 @@
 -- The word of a command is compared where it stands.
-use Rattle.std.proofs.Common.{◌≡◌, ◌<◌, ◌+◌, ◌==◌, ◌∙◌, ℕ, suc, not, Bool, true, false, Some, cond, List, [], ◌∷◌, length, take, drop, get_or, arith, ap, sym, refl}
+use Rattle.std.proofs.Common.{◌≡◌, ◌<◌, ◌+◌, ◌==◌, ◌∙◌, ℕ, suc, not, Bool, true, false, Some, cond}
+use Rattle.std.proofs.Common.{List, [], ◌∷◌, length, take, drop, get_or, arith, ap, sym, refl}
 use Rattle.std.specs.List.{find}
 use Rattle.std.proofs.Math.Seq.{drop-cons}
 use Rattle.std.proofs.lemmas.Bool.Decides.{nat_tests}
 use Rattle.std.proofs.lemmas.Grind.{common_steps}
 use Rattle.std.proofs.lemmas.List.Sums.{fails_before_first, prefix_len-le-length}
-use Rattle.kernel_model.specs.World.{same_bytes}
-use Rattle.kernel_model.specs.declared.Command.{Command}
-use Rattle.kernel_model.specs.Script.{command_named, command_word, all_commands}
+use Rattle.script_model.specs.World.{same_bytes}
+use Rattle.script_model.specs.declared.Command.{Command}
+use Rattle.script_model.specs.Script.{command_named, command_word, all_commands}
 use Rattle.script_text.specs.Words.{word_length, front_word}
 
 -- a word that begins with no space
@@ -23,14 +24,17 @@ front_word-space b bs space =
     ap (λ n. take n (b ∷ bs)) size
 
 -- two words that begin with the same byte
-same-cons : (a b : ℕ) (xs ys : List ℕ) → (a == 32) ≡ false → a ≡ b → same_bytes (a ∷ xs) (front_word (b ∷ ys)) ≡ same_bytes xs (front_word ys)
+same-cons : (a b : ℕ) (xs ys : List ℕ) → (a == 32) ≡ false → a ≡ b →
+    same_bytes (a ∷ xs) (front_word (b ∷ ys)) ≡ same_bytes xs (front_word ys)
 same-cons a b xs ys plain same =
     let front = front_word-cons b ys (ap (λ x. x == 32) (sym same) ∙ plain) in
     ap (same_bytes (a ∷ xs)) front ∙ grind (arith, nat_tests, same)
 
 -- one byte more is the same
-pub goes_on-step : (ending rest : List ℕ) (i : ℕ) → i < length ending → i < length rest → word_length ending ≡ length ending → get_or ending i 0 ≡ get_or rest i 0
-    → same_bytes (drop (i + 1) ending) (front_word (drop (i + 1) rest)) ≡ same_bytes (drop i ending) (front_word (drop i rest))
+pub goes_on-step : (ending rest : List ℕ) (i : ℕ) → i < length ending → i < length rest →
+    word_length ending ≡ length ending → get_or ending i 0 ≡ get_or rest i 0
+    → same_bytes (drop (i + 1) ending) (front_word (drop (i + 1) rest))
+    ≡ same_bytes (drop i ending) (front_word (drop i rest))
 goes_on-step ending rest i inside within plain same =
     let next : i + 1 ≡ suc i = omega arith in
     let no_space = fails_before_first (λ byte. byte == 32) ending i 0 (omega (arith, inside, plain)) in
@@ -57,7 +61,8 @@ found p (x ∷ xs) c is = by (p x) refl is (found p xs c)
     by false fails later rest = rest later
 
 -- the word of a command has as many bytes as that of the text that it was found in
-pub named-size : (text : List ℕ) (c : Command) → command_named (front_word text) ≡ Some c → length (command_word c) ≡ word_length text
+pub named-size : (text : List ℕ) (c : Command) → command_named (front_word text) ≡ Some c →
+    length (command_word c) ≡ word_length text
 named-size text c is =
     let same = found (λ x. same_bytes (command_word x) (front_word text)) all_commands c is in
     let long : length (command_word c) ≡ length (front_word text) = grind (arith, common_steps, same) in

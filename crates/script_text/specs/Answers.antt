@@ -1,7 +1,7 @@
 -- How the answers of `parse_line` stand for what the definitions say of a line.
 use Rattle.std.specs.Prelude.{◌≡◌, ℕ, ◌<◌, ◌≤◌, ⊤, List, Result, Ok, Err}
-use Rattle.kernel_model.specs.Bare.{event_with}
-use Rattle.kernel_model.specs.Script as script
+use Rattle.script_model.specs.Bare.{event_with}
+use Rattle.script_model.specs.Script as script
 use Rattle.script_text.specs.declared.parse.Entry.{Entry}
 use Rattle.script_text.specs.declared.parse.Entry.TheVariants.{Blank, Frames, Patience, Grant, Boot}
 use Rattle.script_text.specs.declared.parse.Entry.TheVariants.{Happens, Image, Raw}
@@ -27,10 +27,10 @@ Refuses WrongPlace said = said ≡ Err script.WrongPlace
 Refuses UnknownCommand said = said ≡ Err script.UnknownCommand
 
 -- an answer, with the bytes of its call, is what the definitions say
-abbrev pub Answers : Result Entry ScriptFault → (bytes : List ℕ) →
+abbrev pub IsParsed : Result Entry ScriptFault → (bytes : List ℕ) →
     Result script.Entry script.ScriptFault → Type 0
-Answers (Ok entry) bytes said = said ≡ Ok (entry_seen entry bytes)
-Answers (Err fault) bytes said = Refuses fault said
+IsParsed (Ok entry) bytes said = said ≡ Ok (entry_seen entry bytes)
+IsParsed (Err fault) bytes said = Refuses fault said
 
 -- what a set-up line sets is within its limits
 abbrev pub SetsWithin : Result Entry ScriptFault → Type 0

@@ -1,7 +1,7 @@
 -- The syntax of a command: what its line must be like.
 use Rattle.std.specs.Prelude.{◌≡◌, ◌≤◌, length, Option, option_map, IfSome}
-use Rattle.kernel_model.specs.declared.Command.{Command}
-use Rattle.kernel_model.specs.Script.{command_word, forms_of, is_setup}
+use Rattle.script_model.specs.declared.Command.{Command}
+use Rattle.script_model.specs.Script.{command_word, forms_of, is_setup}
 use Rattle.script_text.specs.declared.commands.Syntax.{Syntax}
 
 -- the syntax of a command, as the definitions have it

@@ -3,10 +3,10 @@ use Rattle.std.specs.Prelude.{ℕ, Bool, true, false, cond, ◌≡◌, ◌≤◌
 use Rattle.std.specs.Prelude.{[], ◌∷◌, ◌++◌, length, take, is_some, Option, Some, None, Result, Ok}
 use Rattle.std.specs.Prelude.{Err}
 use Rattle.std.specs.List.{position_or_len}
-use Rattle.kernel_model.specs.Bytes.{hex_value, number_of}
-use Rattle.kernel_model.specs.declared.Form.{Form}
-use Rattle.kernel_model.specs.Script.{ScriptFault, BadWord, BadNumber, words_of, number_said, is_bad_word, LINE_BYTES}
-use Rattle.kernel_model.specs.Outcome.{lines_after, rest_after}
+use Rattle.script_model.specs.Bytes.{hex_value, number_of}
+use Rattle.script_model.specs.declared.Form.{Form}
+use Rattle.script_model.specs.Script.{ScriptFault, BadWord, BadNumber, words_of, number_said, is_bad_word, LINE_BYTES}
+use Rattle.script_model.specs.Outcome.{lines_after, rest_after}
 use Rattle.script_text.specs.declared.line_buf.Fed.{Fed}
 use Rattle.script_text.specs.declared.line_buf.Fed.TheVariants.{More, Line, TooLong}
 use Rattle.script_text.specs.declared.words.Reading.{Reading}

@@ -4,14 +4,14 @@
 //! before.
 
 ghost use Rattle.std.specs.Prelude.{◌≡◌, ◌≤◌, ◌∷◌, length, cond, Some, None};
-ghost use Rattle.kernel_model.specs.World.{same_bytes};
-ghost use Rattle.kernel_model.specs.declared.Command.TheVariants as command_is;
-ghost use Rattle.kernel_model.specs.Script.{command_named, command_word, call_word, is_setup, call_forms, forms_of};
+ghost use Rattle.script_model.specs.World.{same_bytes};
+ghost use Rattle.script_model.specs.declared.Command.TheVariants as command_is;
+ghost use Rattle.script_model.specs.Script.{command_named, command_word, call_word, is_setup, call_forms, forms_of};
 ghost use Rattle.script_text.specs.Syntax.{IsSyntax, FindsSyntax};
 ghost use Rattle.script_text.specs.Words.{word_length, front_word};
 
 use crate::digits::ends_at;
-use kernel_model::{CallName, Command, Form};
+use script_model::{CallName, Command, Form};
 
 /// Whether the word that a text begins with is this one. It is always inlined: an ending is a
 /// constant, and takes one comparison a byte then.

@@ -2,12 +2,12 @@
 
 ghost use Rattle.std.specs.Prelude.{◌≡◌, ◌≤◌, ◌==◌, length, drop, cond, slice_index, true, Some, None, IfSome};
 ghost use Rattle.std.specs.List.{list_all};
-ghost use Rattle.kernel_model.specs.Bytes.{is_digit, is_name_byte, number_of, digits_value};
-ghost use Rattle.kernel_model.specs.Script.{name_word};
+ghost use Rattle.script_model.specs.Bytes.{is_digit, is_name_byte, number_of, digits_value};
+ghost use Rattle.script_model.specs.Script.{name_word};
 ghost use Rattle.script_text.specs.Words.{decoded, word_length, IsFirstNumber};
 
 use arrayvec::ArrayVec;
-use kernel_model::{BLOCK_BYTES, NAME_BYTES};
+use script_model::{BLOCK_BYTES, NAME_BYTES};
 
 /// The most digits of a number.
 const DIGITS: usize = 10;

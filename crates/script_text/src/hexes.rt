@@ -2,14 +2,14 @@
 
 ghost use Rattle.std.specs.Prelude.{◌≡◌, ◌≤◌, ◌*◌, length};
 ghost use Rattle.std.specs.List.{list_all};
-ghost use Rattle.kernel_model.specs.Bytes.{hex_bytes, hex_word};
-ghost use Rattle.kernel_model.specs.Script.{WRITE_DIGITS, IMAGE_DIGITS};
+ghost use Rattle.script_model.specs.Bytes.{hex_bytes, hex_word};
+ghost use Rattle.script_model.specs.Script.{WRITE_DIGITS, IMAGE_DIGITS};
 ghost use Rattle.script_text.specs.Words.{decoded, is_hex_digit};
 
 use crate::ImageBytes;
 use crate::digits::put_bytes;
 use arrayvec::ArrayVec;
-use kernel_model::BLOCK_BYTES;
+use script_model::BLOCK_BYTES;
 
 /// The most hex digits of a `write`, a `swrite` and a `serve`.
 const MOST_WRITTEN: usize = 2 * BLOCK_BYTES;

@@ -2,11 +2,11 @@
 
 ghost use Rattle.std.specs.Prelude.{◌≡◌, [], IfOk};
 ghost use Rattle.hex.specs.declared.error.FromHexError.TheVariants.{OutOfMemory};
-ghost use Rattle.kernel_model.specs.Bytes.{hex_bytes};
+ghost use Rattle.script_model.specs.Bytes.{hex_bytes};
 ghost use Rattle.script_text.specs.Words.{bytes_or_none};
 
 use hex::FromHexError;
-use kernel_model::NoMemory;
+use script_model::NoMemory;
 use std::alloc::Global;
 use std::marker::Model;
 
@@ -18,7 +18,7 @@ pub struct ImageBytes<'a> {
 
 impl<'a> Model for ImageBytes<'a> {
     ghost use Rattle.std.specs.Prelude.{ℕ, List};
-    ghost use Rattle.kernel_model.specs.Bytes.{hex_bytes};
+    ghost use Rattle.script_model.specs.Bytes.{hex_bytes};
     ghost use Rattle.script_text.specs.Words.{bytes_or_none};
 
     ghost Value = { List ℕ };

@@ -3,8 +3,8 @@
 ghost use Rattle.std.specs.Prelude.{◌≡◌, ◌≤◌, ◌==◌, [], length, position, IfOk, IfSome};
 ghost use Rattle.std.specs.List.{position_or_len};
 
-use kernel_model::NoMemory;
 use memchr::memchr_iter;
+use script_model::NoMemory;
 use std::alloc::Global;
 use std::marker::Model;
 
@@ -63,7 +63,7 @@ fn plain_length(bytes: &[u8]) -> usize
 
 impl LineBuf {
     ghost use Rattle.std.specs.Prelude.{length, take};
-    ghost use Rattle.kernel_model.specs.Outcome.{lines_after, rest_after};
+    ghost use Rattle.script_model.specs.Outcome.{lines_after, rest_after};
     ghost use Rattle.script_text.specs.Words.{fed, line_with, IsWholeLine};
 
     /// An empty line, with room for 65,536 bytes.

@@ -2,13 +2,13 @@
 
 ghost use Rattle.std.specs.Prelude.{◌≡◌, ℕ, ◌≤◌, ◌<◌, List, [], ◌∷◌, length, option_map, slice_index};
 ghost use Rattle.std.specs.Result.{OnErr};
-ghost use Rattle.kernel_model.specs.declared.Command.TheVariants as command_is;
-ghost use Rattle.kernel_model.specs.Bare.{call_with};
-ghost use Rattle.kernel_model.specs.Bytes.{hex_word};
-ghost use Rattle.kernel_model.specs.Script.{WRITE_DIGITS, IMAGE_DIGITS, amount_at, name_word};
-ghost use Rattle.kernel_model.specs.Script.{open_by, write_by, serve_by, stream_write_by, call_of};
-ghost use Rattle.kernel_model.specs.Script.{happens_by, loads_by, entry_of, is_blank, parsed_line};
-ghost use Rattle.script_text.specs.Answers.{Answers, SetsWithin, with_entry};
+ghost use Rattle.script_model.specs.declared.Command.TheVariants as command_is;
+ghost use Rattle.script_model.specs.Bare.{call_with};
+ghost use Rattle.script_model.specs.Bytes.{hex_word};
+ghost use Rattle.script_model.specs.Script.{WRITE_DIGITS, IMAGE_DIGITS, amount_at, name_word};
+ghost use Rattle.script_model.specs.Script.{open_by, write_by, serve_by, stream_write_by, call_of};
+ghost use Rattle.script_model.specs.Script.{happens_by, loads_by, entry_of, is_blank, parsed_line};
+ghost use Rattle.script_text.specs.Answers.{IsParsed, SetsWithin, with_entry};
 
 use crate::commands::named;
 use crate::digits::name;
@@ -16,7 +16,7 @@ use crate::hexes::{loaded, written};
 use crate::image_bytes::ImageBytes;
 use crate::words::{Reading, WordsRead, read_words, skip};
 use arrayvec::ArrayVec;
-use kernel_model::{BLOCK_BYTES, BareCall, BareEvent, CallName, Command, Kind};
+use script_model::{BLOCK_BYTES, BareCall, BareEvent, CallName, Command, Kind};
 
 /// What a line says.
 #[derive(Drop)]
@@ -101,7 +101,11 @@ fn write(
         ≡ write_by fd i off (hex_word WRITE_DIGITS last.now) }
 {
     if written(last, bytes) {
-        Some(BareCall::Write(fd, i, off))
+        Some(BareCall::Write {
+            descriptor: fd,
+            block: i,
+            offset: off,
+        })
     } else {
         None
     }
@@ -131,7 +135,11 @@ fn stream_write(
         ≡ stream_write_by fd i off (hex_word WRITE_DIGITS last.now) }
 {
     if written(last, bytes) {
-        Some(BareCall::StreamWrite(fd, i, off))
+        Some(BareCall::StreamWrite {
+            descriptor: fd,
+            block: i,
+            offset: off,
+        })
     } else {
         None
     }
@@ -153,21 +161,47 @@ fn call(
         CallName::Sync => Some(BareCall::Sync),
         CallName::Open => open(last, bytes),
         CallName::Close => Some(BareCall::CloseFd(at(n, 1))),
-        CallName::Read => Some(BareCall::Read(at(n, 1), at(n, 2), at(n, 3), at(n, 4))),
+        CallName::Read => Some(BareCall::Read {
+            descriptor: at(n, 1),
+            block: at(n, 2),
+            offset: at(n, 3),
+            length: at(n, 4),
+        }),
         CallName::Write => write(at(n, 1), at(n, 2), at(n, 3), last, bytes),
         CallName::Lock => Some(BareCall::TakeLock(at(n, 1))),
         CallName::Unlock => Some(BareCall::FreeLock(at(n, 1))),
         CallName::Poke => Some(BareCall::Poke(at(n, 1), at(n, 2))),
         CallName::Peek => Some(BareCall::Peek(at(n, 1))),
-        CallName::Tune => Some(BareCall::Tune(at(n, 1), at(n, 2), at(n, 3))),
+        CallName::Tune => Some(BareCall::Tune {
+            kind: at(n, 1),
+            parameter: at(n, 2),
+            value: at(n, 3),
+        }),
         CallName::Default => Some(BareCall::Choose(at(n, 1), at(n, 2))),
-        CallName::Give => Some(BareCall::Give(at(n, 1), amount(at(n, 2)), at(n, 3))),
-        CallName::Install => Some(BareCall::Install(at(n, 1), at(n, 2), at(n, 3))),
+        CallName::Give => Some(BareCall::Give {
+            receiver: at(n, 1),
+            kind: amount(at(n, 2)),
+            amount: at(n, 3),
+        }),
+        CallName::Install => Some(BareCall::Install {
+            point: at(n, 1),
+            slot: at(n, 2),
+            limit: at(n, 3),
+        }),
         CallName::Remove => Some(BareCall::Remove(at(n, 1))),
-        CallName::Fund => Some(BareCall::Fund(at(n, 1), amount(at(n, 2)), at(n, 3))),
+        CallName::Fund => Some(BareCall::Fund {
+            point: at(n, 1),
+            kind: amount(at(n, 2)),
+            amount: at(n, 3),
+        }),
         CallName::Bill => Some(BareCall::Bill(at(n, 1))),
         CallName::Serve => serve(at(n, 1), last, bytes),
-        CallName::StreamRead => Some(BareCall::StreamRead(at(n, 1), at(n, 2), at(n, 3), at(n, 4))),
+        CallName::StreamRead => Some(BareCall::StreamRead {
+            descriptor: at(n, 1),
+            block: at(n, 2),
+            offset: at(n, 3),
+            length: at(n, 4),
+        }),
         CallName::StreamWrite => stream_write(at(n, 1), at(n, 2), at(n, 3), last, bytes),
     }
 }
@@ -175,7 +209,7 @@ fn call(
 /// `frames n`.
 fn frames(n: u32) -> Result<Entry<'static>, ScriptFault>
     ensures answer { (bytes : List ℕ) →
-        Answers result bytes (entry_of command_is.Frames (n ∷ []) []) }
+        IsParsed result bytes (entry_of command_is.Frames (n ∷ []) []) }
     ensures limits { SetsWithin result }
 {
     if n >= 2 && n <= 64 {
@@ -189,7 +223,7 @@ fn frames(n: u32) -> Result<Entry<'static>, ScriptFault>
 fn patience(kind: u32, n: u32) -> Result<Entry<'static>, ScriptFault>
     requires { kind < 8 }
     ensures answer { (bytes : List ℕ) →
-        Answers result bytes (entry_of command_is.Patience (kind ∷ n ∷ []) []) }
+        IsParsed result bytes (entry_of command_is.Patience (kind ∷ n ∷ []) []) }
     ensures limits { SetsWithin result }
 {
     if n >= 1 && n <= 1000 {
@@ -206,7 +240,7 @@ fn happens(
     last: &[u8],
     bytes: &mut ArrayVec<u8, BLOCK_BYTES>,
 ) -> Result<Entry<'static>, ScriptFault>
-    ensures answer { Answers result bytes.new.items
+    ensures answer { IsParsed result bytes.new.items
         (happens_by (slice_index n.now 0) (call_of verb n.now last.now)) }
     ensures limits { SetsWithin result }
 {
@@ -218,7 +252,7 @@ fn happens(
 
 /// `image k HEX`.
 fn image<'a>(slot: u32, last: &'a [u8]) -> Result<Entry<'a>, ScriptFault>
-    ensures answer { (bytes : List ℕ) → Answers result bytes (loads_by slot (hex_word IMAGE_DIGITS last.now)) }
+    ensures answer { (bytes : List ℕ) → IsParsed result bytes (loads_by slot (hex_word IMAGE_DIGITS last.now)) }
     ensures limits { SetsWithin result }
 {
     match loaded(last) {
@@ -235,7 +269,7 @@ fn entry_said<'a>(
     bytes: &mut ArrayVec<u8, BLOCK_BYTES>,
 ) -> Result<Entry<'a>, ScriptFault>
     requires { command ≡ command_is.Patience → slice_index n.now 0 < 8 }
-    ensures answer { Answers result bytes.new.items (entry_of command n.now last.now) }
+    ensures answer { IsParsed result bytes.new.items (entry_of command n.now last.now) }
     ensures limits { SetsWithin result }
 {
     match command {
@@ -258,7 +292,7 @@ fn line_said<'a>(
     bytes: &mut ArrayVec<u8, BLOCK_BYTES>,
 ) -> Result<Entry<'a>, ScriptFault>
     requires { length line.now ≤ 65536 }
-    ensures answer { Answers result bytes.new.items (parsed_line booted line.now) }
+    ensures answer { IsParsed result bytes.new.items (parsed_line booted line.now) }
     ensures limits { SetsWithin result }
 {
     bytes.clear();
@@ -295,7 +329,7 @@ pub fn parse_line<'a>(
     entry: &mut Entry<'a>,
 ) -> Result<(), ScriptFault>
     requires { length line.now ≤ 65536 }
-    ensures answer { Answers (with_entry result entry.new) bytes.new.items
+    ensures answer { IsParsed (with_entry result entry.new) bytes.new.items
         (parsed_line booted line.now) }
     ensures limits { SetsWithin (with_entry result entry.new) }
     ensures kept { OnErr result (entry.new ≡ entry.old) }

@@ -2,14 +2,14 @@
 
 ghost use Rattle.std.specs.Prelude.{◌≡◌, ◌≤◌, ◌+◌, ◌==◌, ℕ, List, [], length, drop, position, IfSome};
 ghost use Rattle.arrayvec.specs.ArrayVec.{array_vec_len};
-ghost use Rattle.kernel_model.specs.World.{same_bytes};
-ghost use Rattle.kernel_model.specs.Script.{object_kinds, amounts, number_said, is_unlisted};
-ghost use Rattle.kernel_model.specs.Script.{is_bad_word, is_well_formed, words_said};
+ghost use Rattle.script_model.specs.World.{same_bytes};
+ghost use Rattle.script_model.specs.Script.{object_kinds, amounts, number_said, is_unlisted};
+ghost use Rattle.script_model.specs.Script.{is_bad_word, is_well_formed, words_said};
 ghost use Rattle.script_text.specs.Words.{word_length, words_left, said, failed, SaysFirst};
 
 use crate::digits::{SPACE, first_number, read_number};
 use arrayvec::ArrayVec;
-use kernel_model::Form;
+use script_model::Form;
 
 /// The most words of a command after its own.
 pub(crate) const WORDS: usize = 5;

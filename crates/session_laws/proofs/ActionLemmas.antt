@@ -1,28 +1,27 @@
 -- What holds of a run through the steps and drops of an event.
-use Rattle.std.specs.Prelude.{◌≡◌, ℕ, zero, suc, ◌<◌, ◌&&◌, Bool, true, false, not, List, [], ◌∷◌, length, Option, Some, None}
+use Rattle.std.specs.Prelude.{◌≡◌, ℕ, zero, suc, ◌<◌, ◌&&◌, Bool, true, false, not, List, [], ◌∷◌}
+use Rattle.std.specs.Prelude.{length, Option, Some, None}
 use Rattle.std.proofs.Common.{arith, refl, subst}
-use Rattle.kernel_model.specs.declared.Cause.{Cause}
-use Rattle.kernel_model.specs.declared.Cause.TheVariants.{TimeOut}
-use Rattle.kernel_model.specs.Meaning.{Meaning}
-use Rattle.kernel_model.specs.Levels.{Level}
-use Rattle.kernel_model.specs.Locks.{outermost_holding}
-use Rattle.kernel_model.specs.History.{Mark, Trace}
-use Rattle.kernel_model.specs.Kernel.{Call, Blocker, Entry, Run, has_level, joins, requeue}
-use Rattle.kernel_model.specs.Blocking.{trace_of, levels_of, holds, needs, blocker}
-use Rattle.kernel_model.specs.Settle.{call_step, first_free, rested_order, rested, settle, settled, step}
-use Rattle.kernel_model.specs.Events.{in_order, innermost, wanted, expired, steps, drop_marked, drop_call, times_out, waiter_action, holder_action, action, entry_action, actions}
-use Rattle.kernel_model.specs.Laws.{Laws}
+use Rattle.script_model.specs.declared.Cause.{Cause}
+use Rattle.script_model.specs.declared.Cause.TheVariants.{TimeOut}
+use Rattle.script_model.specs.Meaning.{Meaning}
+use Rattle.script_model.specs.Levels.{Level}
+use Rattle.script_model.specs.Locks.{outermost_holding}
+use Rattle.script_model.specs.History.{Mark, Trace}
+use Rattle.script_model.specs.Kernel.{Call, Blocker, Waiter, Run, has_level, joins, requeue}
+use Rattle.script_model.specs.Blocking.{trace_of, levels_of, holds, needs, blocker}
+use Rattle.script_model.specs.Settle.{call_step, first_free, rested_order, rested, settle, settled, step}
+use Rattle.script_model.specs.Events.{in_order, innermost, wanted, expired, steps, drop_marked}
+use Rattle.script_model.specs.Events.{drop_call, times_out, waiter_action, holder_action, action}
+use Rattle.script_model.specs.Events.{entry_action, actions}
+use Rattle.script_model.specs.Laws.{Laws}
 use Rattle.graft_laws.proofs.EventLemmas.{held_level}
 use Rattle.session_laws.proofs.TellingLemmas.{Tells, step_tells, drop_tells, end_tells}
+use Rattle.script_model.specs.Quiet.{both_hold}
 
 -- a run with another order
-abbrev pub with_order : List Entry → Run → Run
+abbrev pub with_order : List Waiter → Run → Run
 with_order es r = record r { kernel = record (r.kernel) { order = es } }
-
--- both of two tests pass
-both_pass : (a b : Bool) → (a && b) ≡ true → (a ≡ true) × (b ≡ true)
-both_pass true b h = (refl, h)
-both_pass false b h = absurd cc
 
 fails : (b : Bool) → not b ≡ true → b ≡ false
 fails true h = absurd cc
@@ -58,10 +57,10 @@ module _ (m : Meaning) where
           ]).1
       by_test false e x f rest = h
       by_test true e None f rest =
-          let both = both_pass (has_level (r.kernel.call p)) (not (in_order p r.kernel.order)) e in
+          let both = both_hold (has_level (r.kernel.call p)) (not (in_order p r.kernel.order)) e in
           rest (settled m (step m p r)) (on.taken p r both.0 f h)
       by_test true e (Some b) f rest =
-          let both = both_pass (has_level (r.kernel.call p)) (not (in_order p r.kernel.order)) e in
+          let both = both_hold (has_level (r.kernel.call p)) (not (in_order p r.kernel.order)) e in
           on.blocked p b r both.0 (fails (in_order p r.kernel.order) both.1) f h
 
   -- ---- time-outs
@@ -126,7 +125,7 @@ module _ (m : Meaning) where
         drop_keeps b.holder (outermost_holding b.object mode (holds m r.kernel b.holder))
         (TimeOut b.object p) r (λ n e. held_level m laws laws.need.grafts r b.holder b.object mode n e) h
 
-    pub entry_keeps : (e : Entry) (x : Option Blocker) (r : Run) → P r → P (entry_action m e x r)
+    pub entry_keeps : (e : Waiter) (x : Option Blocker) (r : Run) → P r → P (entry_action m e x r)
     entry_keeps e None r h = h
     entry_keeps e (Some b) r h = by_holder b.call
       where
@@ -136,13 +135,13 @@ module _ (m : Meaning) where
 
   -- all actions of a tick
   pub actions_keep : (P : Run → Type 0) →
-      ((e : Entry) (r : Run) → P r → P (settled m (entry_action m e e.blocker r))) →
+      ((e : Waiter) (r : Run) → P r → P (settled m (entry_action m e e.blocker r))) →
       (n : ℕ) (r : Run) → P r → P (actions m n r)
   actions_keep P act zero r h = h
   actions_keep P act (suc n) r h =
       by_expired (expired r.kernel r.kernel.order) (actions_keep P act n)
     where
-      by_expired : (x : Option Entry) → ((u : Run) → P u → P (actions m n u)) →
+      by_expired : (x : Option Waiter) → ((u : Run) → P u → P (actions m n u)) →
           P (elim x as (λ _. Run)
           [ None ↦ r | Some e ↦ actions m n (settled m (entry_action m e e.blocker r)) ])
       by_expired None rest = h
@@ -153,7 +152,7 @@ module _ (m : Meaning) where
   -- what stays where a call tells something, and in any order
   pub record IsKept (P : Run → Type 0) : Type 0 where
     pub told : (q : ℕ) (c : Call) (r u : Run) → r.kernel.call q ≡ Some c → Tells q c r u → P r → P u
-    pub ordered : (es : List Entry) (r : Run) → P r → P (with_order es r)
+    pub ordered : (es : List Waiter) (r : Run) → P r → P (with_order es r)
 
   module _ (P : Run → Type 0) (kept : IsKept P) where
     step_keeps : (q : ℕ) (r : Run) → P r → P (step m q r)

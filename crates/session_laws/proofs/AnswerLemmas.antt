@@ -1,23 +1,24 @@
 -- The events of a kernel are answered.
-use Rattle.std.specs.Prelude.{◌≡◌, ℕ, ◌≤◌, ◌==◌, ◌&&◌, nat_le, Bool, true, false, not, List, [], ◌∷◌, ◌++◌, filter, Option, Some, None, Result, Ok, Err}
+use Rattle.std.specs.Prelude.{◌≡◌, ℕ, ◌≤◌, ◌==◌, ◌&&◌, nat_le, Bool, true, false, not, List, []}
+use Rattle.std.specs.Prelude.{◌∷◌, ◌++◌, filter, Option, Some, None, Result, Ok, Err}
 use Rattle.std.proofs.Common.{arith, refl, subst, sym, ap, ◌∙◌}
 use Rattle.std.proofs.lemmas.Bool.{eqb-true}
 use Rattle.std.proofs.lemmas.Bool.Decides.{nat_tests}
 use Rattle.std.proofs.lemmas.List.{append_assoc}
-use Rattle.kernel_model.specs.declared.Event.TheVariants.{Step, Sys}
-use Rattle.kernel_model.specs.declared.Note.TheVariants.{Refused, Ran}
-use Rattle.kernel_model.specs.declared.Refusal.{Refusal}
-use Rattle.kernel_model.specs.declared.Refusal.TheVariants.{NoProcess, Busy, BadIndex}
-use Rattle.kernel_model.specs.declared.SysCall.{SysCall}
-use Rattle.kernel_model.specs.World.{Blocks}
-use Rattle.kernel_model.specs.Policies.{lives}
-use Rattle.kernel_model.specs.Meaning.{Meaning, Stage}
-use Rattle.kernel_model.specs.Kernel.{Call, Kernel, Run, noted, joins, with_call, has_level}
-use Rattle.kernel_model.specs.Settle.{settled, step}
-use Rattle.kernel_model.specs.Events.{MOST_STEPS, last_note, last, begun, sys_event, steps, step_event, event}
-use Rattle.kernel_model.specs.Sound.{IsSoundKernel, IsAtRest, HasWholeBlocks}
-use Rattle.kernel_model.specs.Laws.{Laws}
-use Rattle.plain_rules.specs.Ledgers.{at_here, at_other}
+use Rattle.script_model.specs.declared.Event.TheVariants.{Step, Sys}
+use Rattle.script_model.specs.declared.Note.TheVariants.{Refused, Ran}
+use Rattle.script_model.specs.declared.Refusal.{Refusal}
+use Rattle.script_model.specs.declared.Refusal.TheVariants.{NoProcess, Busy, BadIndex}
+use Rattle.script_model.specs.declared.SysCall.{SysCall}
+use Rattle.script_model.specs.World.{Blocks}
+use Rattle.script_model.specs.Policies.{lives}
+use Rattle.script_model.specs.Meaning.{Meaning, Stage}
+use Rattle.script_model.specs.Kernel.{Call, Kernel, Run, noted, joins, with_call, has_level}
+use Rattle.script_model.specs.Settle.{settled, step}
+use Rattle.script_model.specs.Events.{MOST_STEPS, last_note, last, begun, sys_event, steps, step_event, event}
+use Rattle.script_model.specs.Sound.{IsSoundKernel, IsAtRest, HasWholeBlocks}
+use Rattle.script_model.specs.Laws.{Laws}
+use Rattle.call_laws.specs.Ledgers.{at_here, at_other}
 use Rattle.kernel_laws.proofs.SettleLemmas.{settles_to_rest}
 use Rattle.graft_laws.specs.Kernels.{IsSoundRun}
 use Rattle.graft_laws.proofs.KernelStepLemmas.{step_sound}
@@ -26,12 +27,14 @@ use Rattle.graft_laws.proofs.EventLemmas.{joins_sound}
 use Rattle.session_laws.specs.NoteNumbers.{numbered, is_answer}
 use Rattle.session_laws.specs.Answers.{has_call, IsAnswered, IsTold, EventsAreAnswered}
 use Rattle.session_laws.proofs.ActionLemmas.{StepsKeep, steps_keep, settled_keeps, all_steps_keep}
-use Rattle.session_laws.proofs.AnsweringLemmas.{contrary, is_itself, option_is, own_more, other_more, one_answer, call_test, IsAbsent, absent_kept, IsAnswering, IsAnsweringTo, answering_kept}
+use Rattle.session_laws.proofs.AnsweringLemmas.{is_itself, option_is, own_more}
+use Rattle.session_laws.proofs.AnsweringLemmas.{other_more, one_answer, call_test, IsAbsent}
+use Rattle.session_laws.proofs.AnsweringLemmas.{absent_kept, IsAnswering, IsAnsweringTo}
+use Rattle.session_laws.proofs.AnsweringLemmas.{answering_kept}
 use Rattle.session_laws.proofs.PlaceLemmas.{IsPlace, call_place}
 use Rattle.session_laws.proofs.TellingLemmas.{all_numbered}
-
-none_some : {A : Type 0} (x : A) → None ≡ Some x → ⊥
-none_some x e = cc
+use Rattle.kernel_laws.proofs.FrameLemmas.{contrary}
+use Rattle.kernel_laws.proofs.OpeningLemmas.{none_some}
 
 -- a run that is sound and rests
 pub record IsQuiet (m : Meaning) (r : Run) : Type 0 where

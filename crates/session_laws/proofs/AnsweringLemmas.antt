@@ -1,24 +1,23 @@
 -- The notes of one number through the steps of an event: none of them is an answer as long as the call
 -- of that number is in flight, and then the last one is.
-use Rattle.std.specs.Prelude.{◌≡◌, ◌≢◌, ℕ, ◌==◌, Bool, true, false, cond, List, [], ◌∷◌, ◌++◌, filter, Option, Some, None}
+use Rattle.std.specs.Prelude.{◌≡◌, ◌≢◌, ℕ, ◌==◌, Bool, true, false, cond, List, [], ◌∷◌, ◌++◌}
+use Rattle.std.specs.Prelude.{filter, Option, Some, None}
 use Rattle.std.proofs.Common.{arith, refl, subst, sym, ap, ◌∙◌, inl, inr}
 use Rattle.std.proofs.lemmas.Bool.{cases_Bool, cases_eq, eqb-true}
 use Rattle.std.proofs.lemmas.Bool.Decides.{nat_tests}
 use Rattle.std.proofs.lemmas.List.{append_assoc, append-nil}
 use Rattle.std.proofs.lemmas.List.Elements.{filter-append}
-use Rattle.kernel_model.specs.declared.Note.{Note}
-use Rattle.kernel_model.specs.declared.Note.TheVariants.{Waits, InGraft}
-use Rattle.kernel_model.specs.Meaning.{Meaning}
-use Rattle.kernel_model.specs.Kernel.{Call, Kernel, Run}
-use Rattle.kernel_model.specs.Blocking.{number_of_call, same_call}
-use Rattle.history_laws.specs.Notes.{is_end}
+use Rattle.script_model.specs.declared.Note.{Note}
+use Rattle.script_model.specs.declared.Note.TheVariants.{Waits, InGraft}
+use Rattle.script_model.specs.Meaning.{Meaning}
+use Rattle.script_model.specs.Kernel.{Call, Kernel, Run}
+use Rattle.script_model.specs.Blocking.{number_of_call, same_call}
+use Rattle.graft_laws.specs.Notes.{is_end}
 use Rattle.session_laws.specs.NoteNumbers.{number_of, numbered, is_answer}
 use Rattle.session_laws.specs.Answers.{has_call}
 use Rattle.session_laws.proofs.TellingLemmas.{Bear, all_numbered, none_numbered, IsTelling, Tells}
 use Rattle.session_laws.proofs.ActionLemmas.{IsKept}
-
-pub contrary : true ≡ false → ⊥
-contrary h = cc
+use Rattle.kernel_laws.proofs.FrameLemmas.{contrary}
 
 pub is_itself : (n : ℕ) → (n == n) ≡ true
 is_itself n = grind (arith, nat_tests)

@@ -1,18 +1,21 @@
 -- The clock of a run is at most the number of its events.
 use Rattle.std.specs.Prelude.{◌≡◌, ℕ, suc, ◌≤◌, Bool, List, [], ◌∷◌, Option, Some, None, Result}
 use Rattle.std.proofs.Common.{arith, refl, subst}
-use Rattle.kernel_model.specs.declared.Event.{Event}
-use Rattle.kernel_model.specs.declared.Event.TheVariants.{Tick, Step, Sys}
-use Rattle.kernel_model.specs.World.{Image, Blocks}
-use Rattle.kernel_model.specs.declared.Keys.{Keys}
-use Rattle.kernel_model.specs.Images.{LoadFault}
-use Rattle.kernel_model.specs.Kernel.{Kernel}
-use Rattle.kernel_model.specs.Events.{event}
-use Rattle.kernel_model.specs.Meaning.{Meaning}
-use Rattle.kernel_model.specs.Session.{Build, Session, image_answer, after_line, first_io, later_io, session_after, first_session}
+use Rattle.script_model.specs.declared.Event.{Event}
+use Rattle.script_model.specs.declared.Event.TheVariants.{Tick, Step, Sys}
+use Rattle.script_model.specs.World.{Image, Blocks}
+use Rattle.script_model.specs.declared.Keys.{Keys}
+use Rattle.script_model.specs.Images.{LoadFault}
+use Rattle.script_model.specs.Kernel.{Kernel}
+use Rattle.script_model.specs.Events.{event}
+use Rattle.script_model.specs.Meaning.{Meaning}
+use Rattle.script_model.specs.Session.{Build, Session, after_line, first_io}
+use Rattle.script_model.specs.ImageLines.{image_answer}
+use Rattle.script_model.specs.Session.{later_io, session_after, first_session}
 use Rattle.kernel_laws.proofs.ClockLemmas.{ticks_raise_the_clock, others_leave_the_clock}
 use Rattle.session_laws.specs.Clock.{ClockWithinEvents}
-use Rattle.session_laws.proofs.EventCountLemmas.{IsEventCount, WithinEvents, IsWithin, RaisesByOne, image_leaves, line_within}
+use Rattle.session_laws.proofs.EventCountLemmas.{IsEventCount, WithinEvents, IsWithin, RaisesByOne}
+use Rattle.session_laws.proofs.EventCountLemmas.{image_leaves, line_within}
 
 abbrev clock_of : Kernel → ℕ
 clock_of k = k.clock

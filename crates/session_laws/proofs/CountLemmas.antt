@@ -1,22 +1,31 @@
 -- An instruction leaves the count of each level within the limit of its graft.
 use Rattle.std.specs.Prelude.{◌≡◌, ℕ, ◌+◌, ◌≤◌, ◌==◌, ◌||◌, Bool, true, false, List, [], ◌∷◌, Option, Some, None, ⊤}
-use Rattle.std.specs.List.{AllByRecursion as Each}
+use Rattle.std.specs.List.{AllByRecursion}
 use Rattle.std.proofs.Common.{arith, refl, subst, sym, ap, ◌∙◌, inl, inr}
 use Rattle.std.proofs.lemmas.Bool.Decides.{nat_tests}
-use Rattle.kernel_model.specs.declared.Cause.{Cause}
-use Rattle.kernel_model.specs.declared.Cause.TheVariants.{SpentSteps, SpentRecords, SpentLocks, RefusedAnswer}
-use Rattle.kernel_model.specs.declared.Inverse.{Inverse}
-use Rattle.kernel_model.specs.declared.Kind.{Kind}
-use Rattle.kernel_model.specs.declared.Kind.TheVariants.{Steps, Records, Locks}
-use Rattle.kernel_model.specs.declared.Object.{Object}
-use Rattle.kernel_model.specs.World.{World, ImageTable}
-use Rattle.kernel_model.specs.Objects.{Objects, Accounts, Things, GraftValue, with_accounts}
-use Rattle.kernel_model.specs.Machine.{Machine, Done, Called, Returned, Trapped, Outside, PastEnd, seg_step}
-use Rattle.kernel_model.specs.Policies.{valid, default_of}
-use Rattle.kernel_model.specs.Access.{found_segment, set_segment, Access, Gives, Changes, Refuses, access, early_refusal, is_ask, asked_point, asked_objects, asked_graft}
-use Rattle.kernel_model.specs.Charges.{funds, charge, charge_by, charge_account, charge_graft, taken_from, removed, removed_by}
-use Rattle.kernel_model.specs.Levels.{Level, Config, Outcome, code_of, image_of, keeps_in, limit_in, with_machine, with_touched, touch_outermost, answer_innermost, drop_innermost}
-use Rattle.kernel_model.specs.GraftStep.{is_lock_due, lock_paid, after_result, is_record_spent, after_change, after_accessor, ask_refusal, ask_answered, after_ask, granted_call, after_call, completed, after_keeping, after_answer, after_return, after_machine, is_spent, charged_step, micro_on, micro}
+use Rattle.script_model.specs.declared.Cause.{Cause}
+use Rattle.script_model.specs.declared.Cause.TheVariants.{SpentSteps, SpentRecords, SpentLocks, RefusedAnswer}
+use Rattle.script_model.specs.declared.Inverse.{Inverse}
+use Rattle.script_model.specs.declared.Kind.{Kind}
+use Rattle.script_model.specs.declared.Kind.TheVariants.{Steps, Records, Locks}
+use Rattle.script_model.specs.declared.Object.{Object}
+use Rattle.script_model.specs.World.{World, ImageTable}
+use Rattle.script_model.specs.Objects.{Objects, Accounts, Things, GraftValue, with_accounts}
+use Rattle.script_model.specs.Machine.{Machine, Done, Called, Returned, Trapped, Outside, PastEnd, seg_step}
+use Rattle.script_model.specs.Policies.{valid, default_of}
+use Rattle.script_model.specs.Access.{found_segment, set_segment, Access, Gives, Changes, Refuses}
+use Rattle.script_model.specs.Access.{access, early_refusal, is_ask, asked_point, asked_objects}
+use Rattle.script_model.specs.Access.{asked_graft}
+use Rattle.script_model.specs.Charges.{funds, charge, charge_by, charge_account, charge_graft}
+use Rattle.script_model.specs.Charges.{taken_from, removed, removed_by}
+use Rattle.script_model.specs.Levels.{Level, Config, Outcome, code_of, image_of, keeps_in}
+use Rattle.script_model.specs.Levels.{limit_in, with_machine, with_touched, touch_outermost}
+use Rattle.script_model.specs.Levels.{answer_innermost, drop_innermost}
+use Rattle.script_model.specs.GraftStep.{is_lock_due, lock_paid, after_result, is_record_spent}
+use Rattle.script_model.specs.GraftStep.{after_change, after_accessor, ask_refusal, ask_answered}
+use Rattle.script_model.specs.GraftStep.{after_ask, granted_call, after_call, completed}
+use Rattle.script_model.specs.GraftStep.{after_keeping, after_answer, after_return, after_machine}
+use Rattle.script_model.specs.GraftStep.{is_spent, charged_step, micro_on, micro}
 use Rattle.kernel_laws.proofs.LevelLemmas.{each_from, each_contains}
 use Rattle.kernel_laws.proofs.StoreLemmas.{found_at}
 use Rattle.session_laws.specs.Counts.{CountsFit, InstructionsKeepCounts}
@@ -34,7 +43,7 @@ LevelFits a l = Fits l.count (a.graft l.owner l.point)
 
 -- those of all levels are
 abbrev pub AllFit : Accounts → List Level → Type 0
-AllFit a ls = Each (LevelFits a) ls
+AllFit a ls = AllByRecursion (LevelFits a) ls
 
 -- what is within a limit stays so: no graft comes, and none changes its limit
 abbrev pub LimitsStay : (a b : Accounts) → Type 0

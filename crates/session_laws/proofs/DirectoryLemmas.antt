@@ -1,10 +1,12 @@
 -- The directory of a disk: at most 16 files, which lie on the disk.
-use Rattle.std.specs.Prelude.{◌≡◌, ℕ, zero, suc, ◌+◌, ◌≤◌, Bool, true, false, cond, not, ◌&&◌, List, [], ◌∷◌, ◌++◌, length, slice_index_or, Option, Some, None}
+use Rattle.std.specs.Prelude.{◌≡◌, ℕ, zero, suc, ◌+◌, ◌≤◌, Bool, true, false, cond, not, ◌&&◌}
+use Rattle.std.specs.Prelude.{List, [], ◌∷◌, ◌++◌, length, slice_index_or, Option, Some, None}
 use Rattle.std.specs.List.{list_any}
 use Rattle.std.proofs.Common.{arith, refl, subst, ap, ◌∙◌, length-append}
 use Rattle.std.proofs.lemmas.Bool.Decides.{nat_tests}
-use Rattle.kernel_model.specs.declared.FileRow.{FileRow}
-use Rattle.kernel_model.specs.Directory.{entries, with_entry, entry_bytes, entry_row, is_padded, has_name, is_usable, lies_on_disk}
+use Rattle.script_model.specs.declared.FileRow.{FileRow}
+use Rattle.script_model.specs.Directory.{entries, with_entry, entry_bytes, entry_row, is_padded}
+use Rattle.script_model.specs.Directory.{has_name, is_usable, lies_on_disk}
 
 -- no entry
 no_entry : (size : ℕ) (block : List ℕ) → entries size block 0 ≡ []

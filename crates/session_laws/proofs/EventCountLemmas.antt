@@ -1,15 +1,17 @@
 -- A count of kernels that an event raises by at most one stays within the events of a session.
-use Rattle.std.specs.Prelude.{◌≡◌, ℕ, suc, ◌≤◌, nat_lt, Bool, true, false, List, codes, Option, Some, None, Result, Ok, Err, ⊤}
+use Rattle.std.specs.Prelude.{◌≡◌, ℕ, suc, ◌≤◌, nat_lt, Bool, true, false, List, codes, Option}
+use Rattle.std.specs.Prelude.{Some, None, Result, Ok, Err, ⊤}
 use Rattle.std.proofs.Common.{arith, refl}
-use Rattle.kernel_model.specs.declared.Event.{Event}
-use Rattle.kernel_model.specs.declared.Keys.{Keys}
-use Rattle.kernel_model.specs.World.{World, Image, Blocks}
-use Rattle.kernel_model.specs.Images.{LoadFault}
-use Rattle.kernel_model.specs.Kernel.{Kernel}
-use Rattle.kernel_model.specs.Events.{event}
-use Rattle.kernel_model.specs.Meaning.{Meaning}
-use Rattle.kernel_model.specs.Opening.{opening_kernel}
-use Rattle.kernel_model.specs.Session.{Build, Session, add_image, image_added, image_answer, after_line}
+use Rattle.script_model.specs.declared.Event.{Event}
+use Rattle.script_model.specs.declared.Keys.{Keys}
+use Rattle.script_model.specs.World.{World, Image, Blocks}
+use Rattle.script_model.specs.Images.{LoadFault}
+use Rattle.script_model.specs.Kernel.{Kernel}
+use Rattle.script_model.specs.Events.{event}
+use Rattle.script_model.specs.Meaning.{Meaning}
+use Rattle.script_model.specs.Opening.{opening_kernel}
+use Rattle.script_model.specs.Session.{Build, Session, after_line}
+use Rattle.script_model.specs.ImageLines.{add_image, image_added, image_answer}
 use Rattle.session_laws.proofs.LineLemmas.{Holds, GoesOnFrom, line_holds}
 
 -- a count that is 0 at boot, and that an image leaves

@@ -1,49 +1,26 @@
 -- What blocks a call of a sound kernel blocks it still where more images are loaded.
-use Rattle.std.specs.Prelude.{◌≡◌, ℕ, true, cond, List, [], ◌∷◌, map, option_map, Option, Some, None, is_some}
-use Rattle.std.proofs.Common.{refl, subst, sym, ap, ◌∙◌}
+use Rattle.std.specs.Prelude.{◌≡◌, ℕ, List, map, option_map, Option, Some, None}
+use Rattle.std.proofs.Common.{refl, subst, ap, ◌∙◌}
 use mathlib.Core.Path.{fun_ext}
-use Rattle.kernel_model.specs.declared.Need.{Need}
-use Rattle.kernel_model.specs.World.{World, Image, ImageTable, processes}
-use Rattle.kernel_model.specs.Objects.{Accounts, GraftValue}
-use Rattle.kernel_model.specs.Machine.{next_call}
-use Rattle.kernel_model.specs.Locks.{LockTable, first_hindrance}
-use Rattle.kernel_model.specs.Meaning.{Meaning}
-use Rattle.kernel_model.specs.Levels.{Level, Config, image_of, code_in}
-use Rattle.kernel_model.specs.GraftStep.{is_spent, instruction_needs, next_needs, lock_user}
-use Rattle.kernel_model.specs.History.{Mark}
-use Rattle.kernel_model.specs.Kernel.{Call, Blocker, Kernel, Run}
-use Rattle.kernel_model.specs.Blocking.{config_of, levels_in, levels_of, locks_from, holds, needs_at, needs_in, needs, blocker_from, blocker}
-use Rattle.kernel_model.specs.Sound.{ImagesAreLoaded}
-use Rattle.kernel_model.specs.Alike.{Extends}
-use Rattle.kernel_model.specs.Laws.{Laws}
+use Rattle.script_model.specs.declared.Need.{Need}
+use Rattle.script_model.specs.World.{ImageTable, processes}
+use Rattle.script_model.specs.Locks.{LockTable, first_hindrance}
+use Rattle.script_model.specs.Meaning.{Meaning}
+use Rattle.script_model.specs.Levels.{Level, Config}
+use Rattle.script_model.specs.GraftStep.{lock_user}
+use Rattle.script_model.specs.History.{Mark}
+use Rattle.script_model.specs.Kernel.{Call, Blocker, Kernel, Run}
+use Rattle.script_model.specs.Blocking.{config_of, levels_in, levels_of, locks_from, holds}
+use Rattle.script_model.specs.Blocking.{needs_at, needs_in, needs, blocker_from, blocker}
+use Rattle.script_model.specs.Sound.{ImagesAreLoaded}
+use Rattle.script_model.specs.Alike.{Extends}
+use Rattle.script_model.specs.Laws.{Laws}
 use Rattle.graft_laws.specs.Kernels.{IsSoundRun, with_images}
 use Rattle.graft_laws.proofs.GraftOriginLemmas.{images_from}
 use Rattle.graft_laws.proofs.KernelSoundLemmas.{history_come}
+use Rattle.graft_laws.proofs.LoadedImageLemmas.{next_same}
 use Rattle.graft_laws.proofs.MoreImageLemmas.{images_stay_sound}
 use Rattle.graft_laws.proofs.StabilityLemmas.{has_graft}
-
--- the image of a graft, if it is loaded
-image_same : (images more : ImageTable) (a : Accounts) (q pt : ℕ) → Extends images more →
-    ImagesAreLoaded images a → image_of more (a.graft q pt) ≡ image_of images (a.graft q pt)
-image_same images more a q pt extends loaded = by_graft (a.graft q pt) refl
-  where
-    by_image : (slot : ℕ) (y : Option Image) → images slot ≡ y → is_some y ≡ true →
-        more slot ≡ images slot
-    by_image slot None e some = absurd cc
-    by_image slot (Some i) e some = extends slot i e ∙ sym e
-
-    by_graft : (g : Option GraftValue) → a.graft q pt ≡ g → image_of more g ≡ image_of images g
-    by_graft None e = refl
-    by_graft (Some g) e = by_image g.image (images g.image) refl (loaded q pt g e)
-
--- and what the next instruction needs
-next_same : (v : World) (images more : ImageTable) (a : Accounts) (ls : List Level) →
-    Extends images more → ImagesAreLoaded images a →
-    next_needs v more a ls ≡ next_needs v images a ls
-next_same v images more a [] extends loaded = refl
-next_same v images more a (l ∷ ls) extends loaded =
-    ap (λ (i : Option Image). cond (is_spent a l) [] (instruction_needs v l (next_call (code_in i) l.machine)))
-    (image_same images more a l.owner l.point extends loaded)
 
 module _ (m : Meaning) (laws : Laws m) (r : Run) (sound : IsSoundRun m r) (more : ImageTable)
     (extends : Extends r.kernel.images more) where

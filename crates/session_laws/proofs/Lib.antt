@@ -18,3 +18,14 @@ pub mod TickLineLemmas
 pub mod TraceCountLemmas
 pub mod SpendingLemmas
 pub mod SyncLemmas
+pub mod SoundLineLemmas
+pub mod ServePartLemmas
+pub mod ServeThoseLemmas
+pub mod ShownLemmas
+pub mod ServeKeptLemmas
+pub mod ShownEventLemmas
+pub mod ServeOtherLemmas
+pub mod ServeFreshLemmas
+pub mod ServingLemmas
+pub mod SentLemmas
+mod ServedPremises

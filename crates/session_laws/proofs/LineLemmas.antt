@@ -1,20 +1,25 @@
 -- What holds of a session's kernel at its number of events through every line, where it holds at boot
 -- and goes on to hold.
-use Rattle.std.specs.Prelude.{◌≡◌, ℕ, suc, nat_lt, Bool, true, false, List, [], drop, is_some, codes, Option, Some, None, Result, Ok, Err, ⊤}
+use Rattle.std.specs.Prelude.{◌≡◌, ℕ, suc, nat_lt, Bool, true, false, List, [], drop, is_some}
+use Rattle.std.specs.Prelude.{codes, Option, Some, None, Result, Ok, Err, ⊤}
 use Rattle.std.proofs.Common.{refl, subst, sym}
-use Rattle.kernel_model.specs.declared.Event.{Event}
-use Rattle.kernel_model.specs.declared.FileRow.{FileRow}
-use Rattle.kernel_model.specs.declared.Keys.{Keys}
-use Rattle.kernel_model.specs.World.{World, Image, Blocks}
-use Rattle.kernel_model.specs.Directory.{directory_of, usable_count}
-use Rattle.kernel_model.specs.Images.{LoadFault, load}
-use Rattle.kernel_model.specs.Kernel.{Kernel}
-use Rattle.kernel_model.specs.Events.{event}
-use Rattle.kernel_model.specs.Meaning.{Meaning, disk_fails}
-use Rattle.kernel_model.specs.Opening.{opening_kernel}
-use Rattle.kernel_model.specs.Script.{Entry, Blank, Frames, Patience, Grant, Boot, Happens, Loads, Raw, ScriptFault, parsed_line}
-use Rattle.kernel_model.specs.Session.{Build, Session, Written, silent, world_of, booted, boots, add_image, image_added, image_answer, running_in, after_entry, after_parse, after_line}
-use Rattle.kernel_model.specs.Text.{boot_text}
+use Rattle.script_model.specs.declared.Event.{Event}
+use Rattle.script_model.specs.declared.FileRow.{FileRow}
+use Rattle.script_model.specs.declared.Keys.{Keys}
+use Rattle.script_model.specs.World.{World, Image, Blocks}
+use Rattle.script_model.specs.Directory.{directory_of, usable_count}
+use Rattle.script_model.specs.Images.{LoadFault, load}
+use Rattle.script_model.specs.Kernel.{Kernel}
+use Rattle.script_model.specs.Events.{event}
+use Rattle.script_model.specs.Meaning.{Meaning, disk_fails}
+use Rattle.script_model.specs.Opening.{opening_kernel}
+use Rattle.script_model.specs.Script.{Entry, Blank, Frames, Patience, Grant, Boot, Happens, Loads}
+use Rattle.script_model.specs.Script.{Raw, ScriptFault, parsed_line}
+use Rattle.script_model.specs.Session.{Build, Session, Written, silent, world_of, booted, boots}
+use Rattle.script_model.specs.ImageLines.{add_image, image_added, image_answer}
+use Rattle.script_model.specs.Session.{running_in}
+use Rattle.script_model.specs.Session.{after_entry, after_parse, after_line}
+use Rattle.script_model.specs.Text.{boot_text}
 
 module _ (Q : ℕ → Kernel → Type 0) where
   -- it holds of a kernel, if there is one

@@ -1,36 +1,37 @@
 -- Premises of the laws that can't be left out: for each the smallest example in which the law would be false.
-use Rattle.std.specs.Prelude.{◌≡◌, ℕ, ◌≤◌, ◌==◌, Bool, cond, nat_lt, List, [], ◌∷◌, ◌++◌, codes, replicate, Option, Some, None, true, false}
+use Rattle.std.specs.Prelude.{◌≡◌, ℕ, ◌≤◌, ◌==◌, Bool, cond, nat_lt, List, [], ◌∷◌, ◌++◌, codes}
+use Rattle.std.specs.Prelude.{replicate, Option, Some, None, true, false}
 use Rattle.std.proofs.Common.{arith, refl, ap, subst, inl, inr}
 use Rattle.std.proofs.lemmas.Bool.{cases_eq}
 use Rattle.std.proofs.lemmas.List.{length-replicate}
-use Rattle.kernel_model.specs.declared.Event.TheVariants.{Sys}
-use Rattle.kernel_model.specs.declared.Note.{Note}
-use Rattle.kernel_model.specs.declared.Note.TheVariants.{Refused, Ran}
-use Rattle.kernel_model.specs.declared.Refusal.TheVariants.{Busy}
-use Rattle.kernel_model.specs.World.{World, Blocks}
-use Rattle.kernel_model.specs.Objects.{Objects, Accounts, FrameValue}
-use Rattle.kernel_model.specs.Locks.{untouched}
-use Rattle.kernel_model.specs.Directory.{Disk, directory_of}
-use Rattle.kernel_model.specs.declared.Keys.{Keys}
-use Rattle.kernel_model.specs.Levels.{Level, Config}
-use Rattle.kernel_model.specs.GraftStep.{micro}
-use Rattle.kernel_model.specs.Kernel.{Call, Kernel, Run, joins, with_call}
-use Rattle.kernel_model.specs.Opening.{opening_things, opening_kernel}
-use Rattle.kernel_model.specs.Session.{Session, first_setup, world_of, session_after, whole}
-use Rattle.kernel_model.specs.Sound.{IsSoundKernel, HasWholeBlocks}
-use Rattle.kernel_model.specs.declared.SysCall.{SysCall}
-use Rattle.kernel_model.specs.declared.SysCall.TheVariants.{Sync}
-use Rattle.kernel_model.specs.Events.{event}
-use Rattle.kernel_model.specs.Fetch.{dirty_value}
-use Rattle.kernel_model.specs.Meaning.{stage}
-use Rattle.kernel_model.specs.Pieces.{plain, piece_of}
-use Rattle.plain_rules.specs.Ledgers.{at_other}
-use Rattle.plain_rules.specs.PlainLaws.{laws_of_plain}
+use Rattle.script_model.specs.declared.Event.TheVariants.{Sys}
+use Rattle.script_model.specs.declared.Note.{Note}
+use Rattle.script_model.specs.declared.Note.TheVariants.{Refused, Ran}
+use Rattle.script_model.specs.declared.Refusal.TheVariants.{Busy}
+use Rattle.script_model.specs.World.{World, Blocks}
+use Rattle.script_model.specs.Objects.{Objects, Accounts, FrameValue}
+use Rattle.script_model.specs.Locks.{untouched}
+use Rattle.script_model.specs.Directory.{Disk, directory_of}
+use Rattle.script_model.specs.declared.Keys.{Keys}
+use Rattle.script_model.specs.Levels.{Level, Config}
+use Rattle.script_model.specs.GraftStep.{micro}
+use Rattle.script_model.specs.Kernel.{Call, Kernel, Run, joins, with_call}
+use Rattle.script_model.specs.Opening.{opening_things, opening_kernel}
+use Rattle.script_model.specs.Session.{Session, first_setup, world_of, session_after, whole}
+use Rattle.script_model.specs.Sound.{IsSoundKernel, HasWholeBlocks}
+use Rattle.script_model.specs.declared.SysCall.{SysCall}
+use Rattle.script_model.specs.declared.SysCall.TheVariants.{Sync}
+use Rattle.script_model.specs.Events.{event}
+use Rattle.script_model.specs.Fetch.{dirty_value}
+use Rattle.script_model.specs.Meaning.{stage}
+use Rattle.script_model.specs.Pieces.{plain_calls, piece_of}
+use Rattle.call_laws.specs.Ledgers.{at_other}
+use Rattle.call_laws.specs.PlainLaws.{laws_of_plain}
 use Rattle.kernel_laws.proofs.OpeningLemmas.{opening_kernel_is_sound}
 use Rattle.graft_laws.specs.Kernels.{IsSoundRun}
 use Rattle.graft_laws.proofs.SettleSoundLemmas.{joined_call_sound}
-use Rattle.history_laws.specs.Notes.{is_end}
-use Rattle.session_laws.specs.Answers.{has_call, Answers, IsAnswered}
+use Rattle.graft_laws.specs.Notes.{is_end}
+use Rattle.session_laws.specs.Answers.{has_call, AnswersNext, IsAnswered}
 use Rattle.session_laws.specs.Sessions.{run_of}
 use Rattle.session_laws.specs.Syncs.{WritesBackAlone}
 
@@ -166,8 +167,11 @@ doubles_lose h = elim ((h doubled (λ b. [])).frames 0) [
 
     other_bytes : (v : FrameValue) → v ≡ first_value →
         (piece_of Sync 0 small_world doubled (λ b. []) 0 None []).blocks v.block ≡ v.bytes → ⊥
-    other_bytes v is e = apart ((piece_of Sync 0 small_world doubled (λ b. []) 0 None []).blocks first_value.block) first_value.bytes refl refl
-        (subst (λ (x : FrameValue). (piece_of Sync 0 small_world doubled (λ b. []) 0 None []).blocks x.block ≡ x.bytes) is e)
+    other_bytes v is e =
+        apart ((piece_of Sync 0 small_world doubled (λ b. []) 0 None []).blocks first_value.block)
+        first_value.bytes refl refl
+        (subst (λ (x : FrameValue). (piece_of Sync 0 small_world doubled (λ b. []) 0 None []).blocks
+        x.block ≡ x.bytes) is e)
 
 -- ---- answers
 
@@ -186,12 +190,12 @@ unsettled =
     (record { kernel = opening_kernel small_world; blocks = zero_blocks; notes = []; io = [] }))
 
 -- such a kernel is sound
-unsettled_sound : IsSoundRun plain unsettled
+unsettled_sound : IsSoundRun plain_calls unsettled
 unsettled_sound =
-    joined_call_sound plain laws_of_plain laws_of_plain.need.grafts 1 0 Sync (stage Sync 0)
+    joined_call_sound plain_calls laws_of_plain laws_of_plain.need.grafts 1 0 Sync (stage Sync 0)
     (record { kernel = opening_kernel small_world; blocks = zero_blocks; notes = []; io = [] })
     (record {
-      kernel = opening_kernel_is_sound plain small_world
+      kernel = opening_kernel_is_sound plain_calls small_world
           (record {
             frames_some = two_two;
             frames_most = two_most;
@@ -228,8 +232,8 @@ unsettled_sound =
 
 -- a kernel that doesn't rest: behind the number of instructions nothing is said of its call
 unrested_is_silent :
-    ((k : Kernel) (blocks : Blocks) (n : ℕ) → IsSoundKernel plain k → HasWholeBlocks k.world blocks →
-    ((p : ℕ) → has_call k p n ≡ false) → Answers plain k blocks n) →
+    ((k : Kernel) (blocks : Blocks) (n : ℕ) → IsSoundKernel plain_calls k → HasWholeBlocks k.world blocks →
+    ((p : ℕ) → has_call k p n ≡ false) → AnswersNext plain_calls k blocks n) →
     ⊥
 unrested_is_silent h =
     let answers = h unsettled.kernel zero_blocks 2 unsettled_sound.kernel unsettled_sound.blocks fresh in
@@ -260,9 +264,9 @@ unrested_is_silent h =
 -- a number that a call in flight has: the answer is a refusal, while a call of that number is in
 -- flight
 used_number_lies :
-    ((k : Kernel) (blocks : Blocks) (n : ℕ) → IsSoundKernel plain k → HasWholeBlocks k.world blocks →
+    ((k : Kernel) (blocks : Blocks) (n : ℕ) → IsSoundKernel plain_calls k → HasWholeBlocks k.world blocks →
     (p : ℕ) (call : SysCall) (io : List Bool) →
-    IsAnswered plain p n (event plain k blocks n (Sys p call) io)) →
+    IsAnswered plain_calls p n (event plain_calls k blocks n (Sys p call) io)) →
     ⊥
 used_number_lies h =
     let a = h unsettled.kernel zero_blocks 1 unsettled_sound.kernel unsettled_sound.blocks 0 Sync [] in

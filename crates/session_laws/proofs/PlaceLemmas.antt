@@ -1,36 +1,37 @@
 -- Where a call in flight stands in a sound kernel that rests, and the note of it.
-use Rattle.std.specs.Prelude.{◌≡◌, ℕ, suc, ◌≤◌, ◌==◌, ◌||◌, Bool, true, false, List, [], ◌∷◌, length, is_some, Contains, Option, Some, None}
+use Rattle.std.specs.Prelude.{◌≡◌, ℕ, suc, ◌≤◌, ◌==◌, ◌||◌, Bool, true, false, List, [], ◌∷◌}
+use Rattle.std.specs.Prelude.{length, is_some, Contains, Option, Some, None}
 use Rattle.std.proofs.Common.{arith, refl, subst, sym, ap, ◌∙◌, inl, inr}
 use Rattle.std.proofs.lemmas.Bool.{cases_Bool, eqb-true}
-use Rattle.kernel_model.specs.declared.Note.{Note}
-use Rattle.kernel_model.specs.declared.Note.TheVariants.{Waits, InGraft}
-use Rattle.kernel_model.specs.World.{Blocks}
-use Rattle.kernel_model.specs.Meaning.{Meaning}
-use Rattle.kernel_model.specs.Levels.{Level}
-use Rattle.kernel_model.specs.History.{Mark, Trace}
-use Rattle.kernel_model.specs.Kernel.{Call, Blocker, Entry, Kernel, Run, noted, is_at_piece}
-use Rattle.kernel_model.specs.Blocking.{config_in, levels_in, trace_of, config_of, levels_of, blocker}
-use Rattle.kernel_model.specs.Events.{in_order, waits_note, graft_note, last_note}
-use Rattle.kernel_model.specs.Sound.{count_of, in_the_order, IsSoundKernel, IsAtRest, HasWholeBlocks}
-use Rattle.kernel_model.specs.Laws.{Laws}
+use Rattle.script_model.specs.declared.Note.{Note}
+use Rattle.script_model.specs.declared.Note.TheVariants.{Waits, InGraft}
+use Rattle.script_model.specs.World.{Blocks}
+use Rattle.script_model.specs.Meaning.{Meaning}
+use Rattle.script_model.specs.Levels.{Level}
+use Rattle.script_model.specs.History.{Mark, Trace}
+use Rattle.script_model.specs.Kernel.{Call, Blocker, Waiter, Kernel, Run, noted, is_at_piece}
+use Rattle.script_model.specs.Blocking.{config_in, levels_in, trace_of, config_of, levels_of, blocker}
+use Rattle.script_model.specs.Events.{in_order, waits_note, graft_note, last_note}
+use Rattle.script_model.specs.Sound.{count_of, in_the_order, IsSoundKernel, IsAtRest, HasWholeBlocks}
+use Rattle.script_model.specs.Laws.{Laws}
 use Rattle.graft_laws.proofs.OrderLemmas.{count_away}
 use Rattle.graft_laws.proofs.OwnCallLemmas.{calls_replay}
 use Rattle.graft_laws.proofs.SettleSoundLemmas.{away_from}
-use Rattle.history_laws.specs.Notes.{is_end}
-use Rattle.history_laws.proofs.SoundCallLemmas.{contains_first, contains_later}
+use Rattle.graft_laws.specs.Notes.{is_end}
+use Rattle.graft_laws.proofs.SoundCallLemmas.{contains_first, contains_later}
 use Rattle.session_laws.specs.NoteNumbers.{number_of, is_answer}
 use Rattle.session_laws.specs.Answers.{SaysWhere}
-use Rattle.session_laws.proofs.AnsweringLemmas.{contrary}
+use Rattle.kernel_laws.proofs.FrameLemmas.{contrary}
 
 -- an entry of a process in the order
-entry_of : (p : ℕ) (es : List Entry) → in_order p es ≡ true →
-    (e : Entry) × Contains es e × (e.process ≡ p)
+entry_of : (p : ℕ) (es : List Waiter) → in_order p es ≡ true →
+    (e : Waiter) × Contains es e × (e.process ≡ p)
 entry_of p [] h = absurd (contrary (sym h))
 entry_of p (e ∷ es) h = by_test (e.process == p) refl (entry_of p es)
   where
     by_test : (b : Bool) → (e.process == p) ≡ b →
-        (in_order p es ≡ true → (f : Entry) × Contains es f × (f.process ≡ p)) →
-        (f : Entry) × Contains (e ∷ es) f × (f.process ≡ p)
+        (in_order p es ≡ true → (f : Waiter) × Contains es f × (f.process ≡ p)) →
+        (f : Waiter) × Contains (e ∷ es) f × (f.process ≡ p)
     by_test true is further = (e, contains_first e es, eqb-true e.process p is)
     by_test false is further =
         let f = further (sym (ap (λ t. t || in_order p es) is) ∙ h) in

@@ -1,50 +1,53 @@
 -- Each kernel of a run rests, and its calls have the numbers of events that were: so the next event
 -- is answered.
-use Rattle.std.specs.Prelude.{◌≡◌, ℕ, suc, ◌<◌, ◌≤◌, ◌==◌, ◌&&◌, nat_le, Bool, true, false, List, [], ◌∷◌, Option, Some, None, is_some, Result, Ok, Err}
-use Rattle.std.specs.List.{AllByRecursion as Each}
+use Rattle.std.specs.Prelude.{◌≡◌, ℕ, suc, ◌<◌, ◌≤◌, ◌==◌, ◌&&◌, nat_le, Bool, true, false, List}
+use Rattle.std.specs.Prelude.{[], ◌∷◌, Option, Some, None, is_some, Result, Ok, Err}
+use Rattle.std.specs.List.{AllByRecursion}
 use Rattle.std.proofs.Common.{arith, refl, subst, sym, ap, ◌∙◌, inl, inr}
 use Rattle.std.proofs.lemmas.Bool.{cases_eq}
 use Rattle.std.proofs.lemmas.Bool.Decides.{nat_tests}
-use Rattle.kernel_model.specs.declared.Event.{Event}
-use Rattle.kernel_model.specs.declared.Event.TheVariants.{Tick, Step, Sys}
-use Rattle.kernel_model.specs.declared.Keys.{Keys}
-use Rattle.kernel_model.specs.declared.Note.TheVariants.{Refused, Ran}
-use Rattle.kernel_model.specs.declared.Refusal.{Refusal}
-use Rattle.kernel_model.specs.declared.Refusal.TheVariants.{NoProcess, BadIndex}
-use Rattle.kernel_model.specs.declared.SysCall.{SysCall}
-use Rattle.kernel_model.specs.World.{World, Image}
-use Rattle.kernel_model.specs.Objects.{at}
-use Rattle.kernel_model.specs.Policies.{lives}
-use Rattle.kernel_model.specs.Meaning.{Meaning, Stage}
-use Rattle.kernel_model.specs.Kernel.{Call, Entry, Kernel, Run, noted, joins, with_call}
-use Rattle.kernel_model.specs.Blocking.{blocker}
-use Rattle.kernel_model.specs.Events.{MOST_STEPS, counted, ticked, last_note, begun, sys_event, steps, step_event, entry_action, actions, event_on}
-use Rattle.kernel_model.specs.Alike.{Extends}
-use Rattle.kernel_model.specs.Opening.{opening_kernel}
-use Rattle.kernel_model.specs.Session.{Build, Session, after_line, first_io, later_io, session_after, first_session}
-use Rattle.kernel_model.specs.Sound.{IsAtRest}
-use Rattle.kernel_model.specs.Laws.{Laws}
-use Rattle.plain_rules.specs.Ledgers.{at_here, at_other}
+use Rattle.script_model.specs.declared.Event.{Event}
+use Rattle.script_model.specs.declared.Event.TheVariants.{Tick, Step, Sys}
+use Rattle.script_model.specs.declared.Keys.{Keys}
+use Rattle.script_model.specs.declared.Note.TheVariants.{Refused, Ran}
+use Rattle.script_model.specs.declared.Refusal.{Refusal}
+use Rattle.script_model.specs.declared.Refusal.TheVariants.{NoProcess, BadIndex}
+use Rattle.script_model.specs.declared.SysCall.{SysCall}
+use Rattle.script_model.specs.World.{World, Image}
+use Rattle.script_model.specs.Objects.{at}
+use Rattle.script_model.specs.Policies.{lives}
+use Rattle.script_model.specs.Meaning.{Meaning, Stage}
+use Rattle.script_model.specs.Kernel.{Call, Waiter, Kernel, Run, noted, joins, with_call}
+use Rattle.script_model.specs.Blocking.{blocker}
+use Rattle.script_model.specs.Events.{MOST_STEPS, counted, ticked, last_note, begun, sys_event}
+use Rattle.script_model.specs.Events.{steps, step_event, entry_action, actions, event_on}
+use Rattle.script_model.specs.Alike.{Extends}
+use Rattle.script_model.specs.Opening.{opening_kernel}
+use Rattle.script_model.specs.Session.{Build, Session, after_line, first_io, later_io, session_after, first_session}
+use Rattle.script_model.specs.Sound.{IsAtRest}
+use Rattle.script_model.specs.Laws.{Laws}
+use Rattle.call_laws.specs.Ledgers.{at_here, at_other}
 use Rattle.graft_laws.specs.Kernels.{IsSoundRun}
 use Rattle.graft_laws.proofs.EventLemmas.{ticked_sound}
 use Rattle.graft_laws.proofs.KernelStepLemmas.{drop_sound}
 use Rattle.graft_laws.proofs.SettleSoundLemmas.{timed_out_sound, joined_call_sound}
-use Rattle.history_laws.proofs.SoundCallLemmas.{each_contains, each_from}
 use Rattle.session_laws.specs.NoteNumbers.{numbered}
 use Rattle.session_laws.specs.Answers.{has_call, RunsAnswer}
-use Rattle.session_laws.proofs.ActionLemmas.{Loses, entry_keeps, actions_keep, settled_keeps, all_steps_keep, all_actions_keep}
+use Rattle.session_laws.proofs.ActionLemmas.{Loses, entry_keeps, actions_keep, settled_keeps}
+use Rattle.session_laws.proofs.ActionLemmas.{all_steps_keep, all_actions_keep}
 use Rattle.session_laws.proofs.AnsweringLemmas.{call_test, IsAbsent, absent_kept}
 use Rattle.session_laws.proofs.AnswerLemmas.{IsQuiet, settled_quiet, steps_quiet, events_are_answered}
 use Rattle.session_laws.proofs.ImageRestLemmas.{blocker_grown}
 use Rattle.session_laws.proofs.LineLemmas.{Holds, HoldsIn, GoesOnFrom, line_holds}
 use Rattle.session_laws.proofs.SessionLemmas.{StandsWith, Stands, line_stands, first_session_stands, runs_are_sound}
 use Rattle.session_laws.proofs.SliceLemmas.{last_kernel}
+use Rattle.kernel_laws.proofs.LevelLemmas.{each_contains, each_from}
 
 module _ (m : Meaning) (laws : Laws m) where
   -- ---- rest
 
   -- an entry that is blocked by what it keeps
-  abbrev IsBlocked : Kernel → Entry → Type 0
+  abbrev IsBlocked : Kernel → Waiter → Type 0
   IsBlocked k e = (is_some e.blocker ≡ true) × (blocker m k e.process ≡ e.blocker)
 
   ticked_quiet : (number : ℕ) (r : Run) → IsQuiet m r → IsQuiet m (ticked number r)
@@ -55,8 +58,8 @@ module _ (m : Meaning) (laws : Laws m) where
             (counted_blocked r.kernel.order (each_from (IsBlocked r.kernel) r.kernel.order h.rests)) among;
       }
     where
-      counted_blocked : (es : List Entry) → Each (IsBlocked r.kernel) es →
-          Each (IsBlocked r.kernel) (counted es)
+      counted_blocked : (es : List Waiter) → AllByRecursion (IsBlocked r.kernel) es →
+          AllByRecursion (IsBlocked r.kernel) (counted es)
       counted_blocked [] h = tt
       counted_blocked (e ∷ es) h = (h.0, counted_blocked es h.1)
 

@@ -1,19 +1,24 @@
 -- The kernels of runs are sound.
-use Rattle.std.specs.Prelude.{◌≡◌, ℕ, suc, ◌<◌, ◌≤◌, Bool, true, false, List, [], ◌∷◌, drop, length, is_some, codes, slice_index_or, Option, Some, None, Result, Ok, Err}
+use Rattle.std.specs.Prelude.{◌≡◌, ℕ, suc, ◌<◌, ◌≤◌, Bool, true, false, List, [], ◌∷◌, drop}
+use Rattle.std.specs.Prelude.{length, is_some, codes, slice_index_or, Option, Some, None, Result}
+use Rattle.std.specs.Prelude.{Ok, Err}
 use Rattle.std.proofs.Common.{arith, refl, subst, sym}
-use Rattle.kernel_model.specs.declared.Keys.{Keys}
-use Rattle.kernel_model.specs.declared.FileRow.{FileRow}
-use Rattle.kernel_model.specs.Directory.{Disk, directory_of, usable_count, lies_on_disk}
-use Rattle.kernel_model.specs.Kernel.{Kernel}
-use Rattle.kernel_model.specs.Meaning.{disk_fails}
-use Rattle.kernel_model.specs.Laws.{Laws}
-use Rattle.kernel_model.specs.Opening.{opening_kernel}
-use Rattle.kernel_model.specs.Script.{Entry, Blank, Frames, Patience, Grant, Boot, Happens, Loads, Raw, ScriptFault, parsed_line}
-use Rattle.kernel_model.specs.Session.{Build, Setup, Session, Written, silent, world_of, booted, boots, running_in, after_entry, after_parse, after_line, first_io, later_io, session_after, first_session}
-use Rattle.kernel_model.specs.Sound.{IsSoundKernel, HasWholeBlocks}
-use Rattle.kernel_model.specs.Text.{boot_text}
+use Rattle.script_model.specs.declared.Keys.{Keys}
+use Rattle.script_model.specs.declared.FileRow.{FileRow}
+use Rattle.script_model.specs.Directory.{Disk, directory_of, usable_count, lies_on_disk}
+use Rattle.script_model.specs.Kernel.{Kernel}
+use Rattle.script_model.specs.Meaning.{disk_fails}
+use Rattle.script_model.specs.Laws.{Laws}
+use Rattle.script_model.specs.Opening.{opening_kernel}
+use Rattle.script_model.specs.Script.{Entry, Blank, Frames, Patience, Grant, Boot, Happens, Loads}
+use Rattle.script_model.specs.Script.{Raw, ScriptFault, parsed_line}
+use Rattle.script_model.specs.Session.{Build, Setup, Session, Written, silent, world_of, booted}
+use Rattle.script_model.specs.Session.{boots, running_in, after_entry, after_parse, after_line}
+use Rattle.script_model.specs.Session.{first_io, later_io, session_after, first_session}
+use Rattle.script_model.specs.Sound.{IsSoundKernel, HasWholeBlocks}
+use Rattle.script_model.specs.Text.{boot_text}
 use Rattle.kernel_laws.proofs.OpeningLemmas.{opening_kernel_is_sound}
-use Rattle.graft_laws.proofs.SessionLemmas.{lines_stay_sound}
+use Rattle.session_laws.proofs.SoundLineLemmas.{lines_stay_sound}
 use Rattle.session_laws.specs.Sessions.{IsRunnable, RunsAreSound}
 use Rattle.session_laws.proofs.DirectoryLemmas.{row_count, rows_lie, ends_on}
 use Rattle.session_laws.proofs.SetupLemmas.{IsRight, SaysRight, line_right}

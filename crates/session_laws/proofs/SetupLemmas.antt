@@ -1,12 +1,17 @@
 -- A line sets only a number of frames that a kernel can have, and none after boot is another boot.
-use Rattle.std.specs.Prelude.{◌≡◌, ℕ, ◌≤◌, nat_le, nat_lt, ◌&&◌, Bool, true, false, cond, List, [], length, Option, Some, None, Result, Ok, Err, slice_index, ⊤}
+use Rattle.std.specs.Prelude.{◌≡◌, ℕ, ◌≤◌, nat_le, nat_lt, ◌&&◌, Bool, true, false, cond, List, []}
+use Rattle.std.specs.Prelude.{length, Option, Some, None, Result, Ok, Err, slice_index, ⊤}
 use Rattle.std.proofs.Common.{arith, refl}
 use Rattle.std.proofs.lemmas.Bool.Decides.{nat_tests}
-use Rattle.kernel_model.specs.declared.Command.{Command}
-use Rattle.kernel_model.specs.declared.Command.TheVariants.{Call}
-use Rattle.kernel_model.specs.declared.SysCall.{SysCall}
-use Rattle.kernel_model.specs.Bytes.{hex_word}
-use Rattle.kernel_model.specs.Script.{Entry, Blank, Frames, Patience, Boot, ScriptFault, BadNumber, LINE_BYTES, IMAGE_DIGITS, is_blank, is_setup, same_bool, call_of, words_of, first_word, other_words, command_named, words_said, forms_of, happens_by, loads_by, entry_of, entry_by, entry_at, parsed_line}
+use Rattle.script_model.specs.declared.Command.{Command}
+use Rattle.script_model.specs.declared.Command.TheVariants.{Call}
+use Rattle.script_model.specs.declared.SysCall.{SysCall}
+use Rattle.script_model.specs.Bytes.{hex_word}
+use Rattle.script_model.specs.Script.{Entry, Blank, Frames, Patience, Boot, ScriptFault, BadNumber}
+use Rattle.script_model.specs.Script.{LINE_BYTES, IMAGE_DIGITS, is_blank, is_setup, same_bool}
+use Rattle.script_model.specs.Script.{call_of, words_of, first_word, other_words, command_named}
+use Rattle.script_model.specs.Script.{words_said, forms_of, happens_by, loads_by, entry_of}
+use Rattle.script_model.specs.Script.{entry_by, entry_at, parsed_line}
 
 -- a number of frames is in its range, and a boot stands before boot
 abbrev pub IsRight : (booted : Bool) → Entry → Type 0

@@ -1,31 +1,34 @@
 -- The slices of all processes, and the calls in flight, are together at most a run's events.
-use Rattle.std.specs.Prelude.{◌≡◌, ℕ, suc, ◌+◌, ◌≤◌, nat_le, ◌&&◌, Bool, true, false, List, [], ◌∷◌, Option, Some, None, is_some, Result, Ok, Err}
+use Rattle.std.specs.Prelude.{◌≡◌, ℕ, suc, ◌+◌, ◌≤◌, nat_le, ◌&&◌, Bool, true, false, List, []}
+use Rattle.std.specs.Prelude.{◌∷◌, Option, Some, None, is_some, Result, Ok, Err}
 use Rattle.std.proofs.Common.{arith, refl, subst, sym, ap}
-use Rattle.kernel_model.specs.declared.Keys.{Keys}
-use Rattle.kernel_model.specs.declared.Event.{Event}
-use Rattle.kernel_model.specs.declared.Event.TheVariants.{Tick, Step, Sys}
-use Rattle.kernel_model.specs.declared.Note.TheVariants.{Refused, Ran}
-use Rattle.kernel_model.specs.declared.Refusal.{Refusal}
-use Rattle.kernel_model.specs.declared.Refusal.TheVariants.{NoProcess, BadIndex}
-use Rattle.kernel_model.specs.declared.SysCall.{SysCall}
-use Rattle.kernel_model.specs.Policies.{lives}
-use Rattle.kernel_model.specs.Meaning.{Meaning, Stage}
-use Rattle.kernel_model.specs.Levels.{Level}
-use Rattle.kernel_model.specs.Kernel.{Call, Blocker, Kernel, Run, noted, joins, with_call}
-use Rattle.kernel_model.specs.Blocking.{levels_of, blocker}
-use Rattle.kernel_model.specs.Settle.{settled}
-use Rattle.kernel_model.specs.Events.{MOST_STEPS, in_order, waits_note, graft_note, ticked, last_note, begun, sys_event, steps, step_event, actions, event_on}
-use Rattle.kernel_model.specs.Opening.{opening_kernel}
-use Rattle.kernel_model.specs.Session.{Build, Session, after_line, first_io, later_io, session_after, first_session}
-use Rattle.kernel_model.specs.Sound.{once_if}
-use Rattle.kernel_model.specs.Laws.{Laws, slices_in}
-use Rattle.plain_rules.specs.Ledgers.{at_here, at_other, sum_one, sum_zero}
+use Rattle.script_model.specs.declared.Keys.{Keys}
+use Rattle.script_model.specs.declared.Event.{Event}
+use Rattle.script_model.specs.declared.Event.TheVariants.{Tick, Step, Sys}
+use Rattle.script_model.specs.declared.Note.TheVariants.{Refused, Ran}
+use Rattle.script_model.specs.declared.Refusal.{Refusal}
+use Rattle.script_model.specs.declared.Refusal.TheVariants.{NoProcess, BadIndex}
+use Rattle.script_model.specs.declared.SysCall.{SysCall}
+use Rattle.script_model.specs.Policies.{lives}
+use Rattle.script_model.specs.Meaning.{Meaning, Stage}
+use Rattle.script_model.specs.Levels.{Level}
+use Rattle.script_model.specs.Kernel.{Call, Blocker, Kernel, Run, noted, joins, with_call}
+use Rattle.script_model.specs.Blocking.{levels_of, blocker}
+use Rattle.script_model.specs.Settle.{settled}
+use Rattle.script_model.specs.Events.{MOST_STEPS, in_order, waits_note, graft_note, ticked}
+use Rattle.script_model.specs.Events.{last_note, begun, sys_event, steps, step_event, actions}
+use Rattle.script_model.specs.Events.{event_on}
+use Rattle.script_model.specs.Opening.{opening_kernel}
+use Rattle.script_model.specs.Session.{Build, Session, after_line, first_io, later_io, session_after, first_session}
+use Rattle.script_model.specs.Sound.{once_if}
+use Rattle.script_model.specs.Laws.{Laws, slices_in}
+use Rattle.call_laws.specs.Ledgers.{at_here, at_other, sum_one, sum_zero}
 use Rattle.kernel_laws.proofs.InstructionLemmas.{instructions_work}
 use Rattle.kernel_laws.proofs.HistoryLemmas.{histories_work}
 use Rattle.kernel_laws.proofs.SoundConfigLemmas.{effects_stay_sound}
-use Rattle.history_laws.proofs.MoveLemmas.{StandsAt}
-use Rattle.history_laws.proofs.GoLemmas.{goes_self, settled_goes, steps_go, actions_go}
-use Rattle.history_laws.proofs.NoteLemmas.{begun_stands, sound_stands}
+use Rattle.graft_laws.proofs.MoveLemmas.{StandsAt}
+use Rattle.graft_laws.proofs.GoLemmas.{goes_self, settled_goes, steps_go, actions_go}
+use Rattle.graft_laws.proofs.NoteLemmas.{begun_stands, sound_stands}
 use Rattle.session_laws.specs.Slices.{calls_in_flight, slices_due, SlicesWithinEvents}
 use Rattle.session_laws.proofs.EventCountLemmas.{IsEventCount, WithinEvents, IsWithin, RaisesByOne, line_within}
 use Rattle.session_laws.proofs.SessionLemmas.{StandsWith, Stands, line_stands, first_session_stands}

@@ -3,12 +3,13 @@ use Rattle.std.specs.Prelude.{◌≡◌, ◌⊎◌, ℕ, zero, suc, ◌==◌, Bo
 use Rattle.std.proofs.Common.{arith, refl, sym, ap, subst, ◌∙◌, inl, inr}
 use Rattle.std.proofs.lemmas.Bool.{cases_Bool}
 use Rattle.std.proofs.lemmas.Bool.Decides.{nat_tests}
-use Rattle.kernel_model.specs.World.{Blocks}
-use Rattle.kernel_model.specs.Objects.{Objects, FrameValue, CacheValue, at}
-use Rattle.kernel_model.specs.Fetch.{dirty_value, cleaned}
-use Rattle.kernel_model.specs.Meaning.{Piece, disk_fails}
-use Rattle.kernel_model.specs.FilePieces.{with_cache, disk_failed, sync_from}
+use Rattle.script_model.specs.World.{Blocks}
+use Rattle.script_model.specs.Objects.{Objects, FrameValue, CacheValue, at}
+use Rattle.script_model.specs.Fetch.{dirty_value, cleaned}
+use Rattle.script_model.specs.Meaning.{Piece, disk_fails}
+use Rattle.script_model.specs.FilePieces.{with_cache, disk_failed, sync_from}
 use Rattle.session_laws.specs.Syncs.{IsWrittenBack, IsHeldDirty, WritesBackAlone, SyncsWriteBackAlone}
+use Rattle.call_laws.specs.Syncs.{dirty_in_use}
 
 -- no block stands in two frames
 abbrev pub HasOneFrame : CacheValue → Type 0
@@ -23,21 +24,6 @@ clean_not_dirty x value other e d = no (ap dirty_value (sym e) ∙ d)
   where
     no : None ≡ Some other → ⊥
     no h = cc
-
--- a dirty frame is in use with what it holds
-dirty_is : (x : Option FrameValue) (value : FrameValue) → dirty_value x ≡ Some value → x ≡ Some value
-dirty_is None value e = absurd (no e)
-  where
-    no : None ≡ Some value → ⊥
-    no h = cc
-dirty_is (Some x) value e = by_flag x.dirty e
-  where
-    by_flag : (b : Bool) → cond b (Some x) None ≡ Some value → Some x ≡ Some value
-    by_flag true h = h
-    by_flag false h = absurd (no h)
-      where
-        no : None ≡ Some value → ⊥
-        no h = cc
 
 -- a frame after one was cleaned: that one, or as it was
 data CleanedAt (f g : ℕ) (value : FrameValue) (c : CacheValue) : Type 0 where
@@ -65,17 +51,25 @@ one_frame_stays f value c held one g h x y gx hy same =
     was : (g : ℕ) (x : FrameValue) → (cleaned f value c).frame g ≡ Some x →
         (u : FrameValue) × (c.frame g ≡ Some u) × (u.block ≡ x.block)
     was g x e = elim (cleaned_at f g value c) [
-      | Here is now ↦ (value, ap c.frame (sym is) ∙ held, ap (λ (u : FrameValue). u.block) (some_is (record value { dirty = false }) x (sym now ∙ e)))
+      | Here is now ↦ (
+        value,
+        ap c.frame (sym is) ∙ held,
+        ap (λ (u : FrameValue). u.block)
+            (some_is (record value { dirty = false }) x (sym now ∙ e)),
+      )
       | There other now ↦ (x, sym now ∙ e, refl)
     ]
 
 -- ---- all frames
 
 -- nothing was written
-none_written : (s : Objects) (blocks : Blocks) (q : Piece) → q.objects ≡ s → q.blocks ≡ blocks → WritesBackAlone s blocks q
+none_written : (s : Objects) (blocks : Blocks) (q : Piece) → q.objects ≡ s → q.blocks ≡ blocks →
+    WritesBackAlone s blocks q
 none_written s blocks q objects disk =
     record {
-      elsewhere = subst (λ (u : Objects). u ≡ with_cache (record (s.things.cache) { frame = u.things.cache.frame }) s) (sym objects) refl;
+      elsewhere =
+          subst (λ (u : Objects). u ≡ with_cache
+          (record (s.things.cache) { frame = u.things.cache.frame }) s) (sym objects) refl;
       frames = λ g. inl (ap (λ (u : Objects). u.things.cache.frame g) objects);
       disk = λ b. inl (ap (λ (d : Blocks). d b) disk);
     }
@@ -94,14 +88,14 @@ one_written s blocks f value q one dirty h = record { elsewhere = h.elsewhere; f
     mid = with_cache (cleaned f value c) s
 
     held : c.frame f ≡ Some value
-    held = dirty_is (c.frame f) value dirty
+    held = dirty_in_use (c.frame f) value dirty
 
     -- the frame that was cleaned isn't dirty, and no other holds its block
     not_again : (b : List ℕ) → IsHeldDirty mid value.block b → ⊥
     not_again b d = elim (cleaned_at f d.frame value c) [
       | Here is now ↦ clean_not_dirty (mid.things.cache.frame d.frame) value d.value now d.dirty
       | There other now ↦ apart f d.frame other (one f d.frame value d.value held
-          (sym now ∙ dirty_is (mid.things.cache.frame d.frame) d.value d.dirty) (sym d.block_is))
+          (sym now ∙ dirty_in_use (mid.things.cache.frame d.frame) d.value d.dirty) (sym d.block_is))
     ]
       where
         apart : (f g : ℕ) → (g == f) ≡ false → f ≡ g → ⊥
@@ -117,7 +111,8 @@ one_written s blocks f value q one dirty h = record { elsewhere = h.elsewhere; f
         itself n = grind (arith, nat_tests)
 
     -- what was dirty still was dirty
-    was_dirty : (g : ℕ) (x : FrameValue) → dirty_value (mid.things.cache.frame g) ≡ Some x → dirty_value (c.frame g) ≡ Some x
+    was_dirty : (g : ℕ) (x : FrameValue) → dirty_value (mid.things.cache.frame g) ≡ Some x →
+        dirty_value (c.frame g) ≡ Some x
     was_dirty g x d = elim (cleaned_at f g value c) [
       | Here is now ↦ absurd (clean_not_dirty (mid.things.cache.frame g) value x now d)
       | There other now ↦ ap dirty_value (sym now) ∙ d
@@ -134,7 +129,12 @@ one_written s blocks f value q one dirty h = record { elsewhere = h.elsewhere; f
         })
         | There other now ↦ inl (same ∙ now)
       ]
-      | inr w ↦ inr (record { value = w.value; dirty = was_dirty g w.value w.dirty; clean = w.clean; on_disk = w.on_disk })
+      | inr w ↦ inr (record {
+        value = w.value;
+        dirty = was_dirty g w.value w.dirty;
+        clean = w.clean;
+        on_disk = w.on_disk;
+      })
     ]
 
     disk : (b : ℕ) → (q.blocks b ≡ blocks b) ⊎ IsHeldDirty s b (q.blocks b)
@@ -181,7 +181,7 @@ sync_call n f written s blocks io one rest false value dirty =
     one_written s blocks f value
     (sync_from n (suc f) (suc written) mid (at value.block value.bytes blocks) io) one dirty
     (rest (suc f) (suc written) mid (at value.block value.bytes blocks)
-    (one_frame_stays f value s.things.cache (dirty_is (s.things.cache.frame f) value dirty) one))
+    (one_frame_stays f value s.things.cache (dirty_in_use (s.things.cache.frame f) value dirty) one))
 
 -- by whether the frame is dirty
 sync_frame : (n f written : ℕ) (s : Objects) (blocks : Blocks) (io : List Bool) → HasOneFrame s.things.cache →

@@ -1,34 +1,37 @@
 -- What a step of a call tells, or the loss of a level: notes with the call's number, and an answer
 -- at their end exactly where the call isn't in flight any more.
-use Rattle.std.specs.Prelude.{◌≡◌, ◌≢◌, ℕ, zero, suc, ◌==◌, true, false, cond, List, [], ◌∷◌, ◌++◌, filter, Option, Some, None}
-use Rattle.std.specs.List.{AllByRecursion as Each}
+use Rattle.std.specs.Prelude.{◌≡◌, ◌≢◌, ℕ, zero, suc, ◌==◌, true, false, cond, List, [], ◌∷◌, ◌++◌}
+use Rattle.std.specs.Prelude.{filter, Option, Some, None}
+use Rattle.std.specs.List.{AllByRecursion}
 use Rattle.std.proofs.Common.{arith, refl, subst, sym, ap, ◌∙◌}
 use Rattle.std.proofs.lemmas.Bool.Decides.{nat_tests}
 use Rattle.std.proofs.lemmas.List.{append_assoc, append-nil}
-use Rattle.kernel_model.specs.declared.Cause.{Cause}
-use Rattle.kernel_model.specs.declared.Micro.{Micro}
-use Rattle.kernel_model.specs.declared.Note.{Note}
-use Rattle.kernel_model.specs.declared.Note.TheVariants.{Ended, Refused, Gave, Dropped}
-use Rattle.kernel_model.specs.declared.Point.{Point}
-use Rattle.kernel_model.specs.declared.Refusal.TheVariants.{TimedOut}
-use Rattle.kernel_model.specs.Objects.{GraftValue}
-use Rattle.kernel_model.specs.Meaning.{Meaning, Piece, After, Continues, EndsWith, Fails}
-use Rattle.kernel_model.specs.Levels.{Outcome, answer_of, drop_level}
-use Rattle.kernel_model.specs.GraftStep.{micro}
-use Rattle.kernel_model.specs.History.{Mark, Stepped, Trace, fallen}
-use Rattle.kernel_model.specs.Kernel.{Call, Blocker, Run, finish, noted, requeue, with_marks, gave_note, after_note, call_after}
-use Rattle.kernel_model.specs.Blocking.{trace_of}
-use Rattle.kernel_model.specs.Settle.{lost_objects, finish_on, piece_at, piece_step, after_outcome, graft_step, marked_step, call_step}
-use Rattle.kernel_model.specs.Events.{drop_at, drop_marked, drop_call, times_out}
-use Rattle.plain_rules.specs.Ledgers.{at_here, at_other}
-use Rattle.history_laws.specs.Notes.{is_end}
+use Rattle.script_model.specs.declared.Cause.{Cause}
+use Rattle.script_model.specs.declared.Micro.{Micro}
+use Rattle.script_model.specs.declared.Note.{Note}
+use Rattle.script_model.specs.declared.Note.TheVariants.{Ended, Refused, Gave, Dropped}
+use Rattle.script_model.specs.declared.Point.{Point}
+use Rattle.script_model.specs.declared.Refusal.TheVariants.{TimedOut}
+use Rattle.script_model.specs.Objects.{GraftValue}
+use Rattle.script_model.specs.Meaning.{Meaning, Piece, After, Continues, EndsWith, Fails}
+use Rattle.script_model.specs.Levels.{Outcome, answer_of, drop_level}
+use Rattle.script_model.specs.GraftStep.{micro}
+use Rattle.script_model.specs.History.{Mark, Stepped, Trace, fallen}
+use Rattle.script_model.specs.Kernel.{Call, Blocker, Run, finish, noted, requeue, with_marks}
+use Rattle.script_model.specs.Kernel.{gave_note, after_note, call_after}
+use Rattle.script_model.specs.Blocking.{trace_of}
+use Rattle.script_model.specs.Settle.{lost_objects, finish_on, piece_at, piece_step, after_outcome}
+use Rattle.script_model.specs.Settle.{graft_step, marked_step, call_step}
+use Rattle.script_model.specs.Events.{drop_at, drop_marked, drop_call, times_out}
+use Rattle.call_laws.specs.Ledgers.{at_here, at_other}
+use Rattle.graft_laws.specs.Notes.{is_end}
 use Rattle.session_laws.specs.NoteNumbers.{number_of, numbered, is_answer}
 
 -- ---- notes of one number
 
 -- all of these notes bear this number
 abbrev pub Bear : ℕ → List Note → Type 0
-Bear n notes = Each (λ (x : Note). number_of x ≡ n) notes
+Bear n notes = AllByRecursion (λ (x : Note). number_of x ≡ n) notes
 
 pub all_numbered : (n : ℕ) (notes : List Note) → Bear n notes → numbered n notes ≡ notes
 all_numbered n [] h = refl

@@ -1,20 +1,24 @@
 -- The clock of a run is the number of its lines that are run as ticks.
-use Rattle.std.specs.Prelude.{◌≡◌, ℕ, suc, ◌+◌, Bool, true, false, ◌&&◌, List, [], ◌∷◌, drop, is_some, codes, Option, Some, None, Result, Ok, Err}
+use Rattle.std.specs.Prelude.{◌≡◌, ℕ, suc, ◌+◌, Bool, true, false, ◌&&◌, List, [], ◌∷◌, drop}
+use Rattle.std.specs.Prelude.{is_some, codes, Option, Some, None, Result, Ok, Err}
 use Rattle.std.proofs.Common.{arith, refl, sym, ap, ◌∙◌}
-use Rattle.kernel_model.specs.declared.Event.{Event}
-use Rattle.kernel_model.specs.declared.Event.TheVariants.{Tick, Step, Sys}
-use Rattle.kernel_model.specs.declared.FileRow.{FileRow}
-use Rattle.kernel_model.specs.World.{Blocks}
-use Rattle.kernel_model.specs.Directory.{directory_of, usable_count}
-use Rattle.kernel_model.specs.declared.Keys.{Keys}
-use Rattle.kernel_model.specs.Images.{load}
-use Rattle.kernel_model.specs.Kernel.{Kernel}
-use Rattle.kernel_model.specs.Events.{event}
-use Rattle.kernel_model.specs.Meaning.{Meaning, disk_fails}
-use Rattle.kernel_model.specs.Script.{Entry, Blank, Frames, Patience, Grant, Boot, Happens, Loads, Raw, ScriptFault, parsed_line}
-use Rattle.kernel_model.specs.Session.{Build, Session, Written, silent, world_of, booted, boots, running_in, after_entry, after_parse, after_line, first_io, later_io, session_after, first_session}
-use Rattle.kernel_model.specs.Sound.{once_if}
-use Rattle.kernel_model.specs.Text.{boot_text}
+use Rattle.script_model.specs.declared.Event.{Event}
+use Rattle.script_model.specs.declared.Event.TheVariants.{Tick, Step, Sys}
+use Rattle.script_model.specs.declared.FileRow.{FileRow}
+use Rattle.script_model.specs.World.{Blocks}
+use Rattle.script_model.specs.Directory.{directory_of, usable_count}
+use Rattle.script_model.specs.declared.Keys.{Keys}
+use Rattle.script_model.specs.Images.{load}
+use Rattle.script_model.specs.Kernel.{Kernel}
+use Rattle.script_model.specs.Events.{event}
+use Rattle.script_model.specs.Meaning.{Meaning, disk_fails}
+use Rattle.script_model.specs.Script.{Entry, Blank, Frames, Patience, Grant, Boot, Happens, Loads}
+use Rattle.script_model.specs.Script.{Raw, ScriptFault, parsed_line}
+use Rattle.script_model.specs.Session.{Build, Session, Written, silent, world_of, booted, boots}
+use Rattle.script_model.specs.Session.{running_in, after_entry, after_parse, after_line, first_io}
+use Rattle.script_model.specs.Session.{later_io, session_after, first_session}
+use Rattle.script_model.specs.Sound.{once_if}
+use Rattle.script_model.specs.Text.{boot_text}
 use Rattle.kernel_laws.specs.Clock.{is_tick}
 use Rattle.kernel_laws.proofs.ClockLemmas.{ticks_raise_the_clock, others_leave_the_clock}
 use Rattle.session_laws.specs.Clock.{is_tick_entry, says_tick, is_tick_line, tick_lines, ClockCountsTicks}
@@ -54,7 +58,8 @@ module _ (b : Build) (keys : Keys) (size : ℕ) where
 
   -- an event, by the kernel if there is one
   happens_counts : (s : Session) (e : Event) (x : Option Kernel) (io : List Bool) → s.kernel ≡ x →
-      clock_in (running_in b keys size s (Happens e) x io).session.kernel ≡ once_if (is_tick e && is_some x) + clock_in x
+      clock_in (running_in b keys size s (Happens e) x io).session.kernel
+      ≡ once_if (is_tick e && is_some x) + clock_in x
   happens_counts s e None io is = ap clock_in is ∙ none_counts e
   happens_counts s e (Some k) io is = event_counts b.meaning k s.blocks (suc s.events) e io
 

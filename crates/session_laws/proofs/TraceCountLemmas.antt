@@ -1,24 +1,30 @@
 -- Wherever a history leads, the count of each level is within the limit of its graft.
-use Rattle.std.specs.Prelude.{◌≡◌, ℕ, suc, ◌≤◌, ◌==◌, ◌&&◌, Bool, true, false, not, List, [], ◌∷◌, length, Option, Some, None, is_some, ⊤}
+use Rattle.std.specs.Prelude.{◌≡◌, ℕ, suc, ◌≤◌, ◌==◌, ◌&&◌, Bool, true, false, not, List, [], ◌∷◌}
+use Rattle.std.specs.Prelude.{length, Option, Some, None, is_some, ⊤}
 use Rattle.std.proofs.Common.{subst}
-use Rattle.kernel_model.specs.declared.Kind.{Kind}
-use Rattle.kernel_model.specs.declared.Need.{Need}
-use Rattle.kernel_model.specs.declared.Object.TheVariants.{Graft}
-use Rattle.kernel_model.specs.declared.Point.{Point}
-use Rattle.kernel_model.specs.World.{World, ImageTable}
-use Rattle.kernel_model.specs.Objects.{Objects, GraftValue}
-use Rattle.kernel_model.specs.Policies.{default_of}
-use Rattle.kernel_model.specs.Charges.{funds, charge, removed}
-use Rattle.kernel_model.specs.Meaning.{Meaning}
-use Rattle.kernel_model.specs.Levels.{Level, Config, Effect, Asked, Charged, Removed, Outcome, is_going_on, limit_in}
-use Rattle.kernel_model.specs.GraftStep.{micro}
-use Rattle.kernel_model.specs.History.{Mark, Stepped, Fell, Trace, begin_with, begin_at, first_trace, trace_after, stepped, is_found, with_accounts_of, config_if, effect, effects_on, level_ends, owner_among, fallen_if, fell_on, mark_on, marks_on}
-use Rattle.kernel_model.specs.Kernel.{Call, Kernel}
-use Rattle.kernel_model.specs.Blocking.{config_in, config_of, trace_of}
+use Rattle.script_model.specs.declared.Kind.{Kind}
+use Rattle.script_model.specs.declared.Need.{Need}
+use Rattle.script_model.specs.declared.Object.TheVariants.{Graft}
+use Rattle.script_model.specs.declared.Point.{Point}
+use Rattle.script_model.specs.World.{World, ImageTable}
+use Rattle.script_model.specs.Objects.{Objects, GraftValue}
+use Rattle.script_model.specs.Policies.{default_of}
+use Rattle.script_model.specs.Charges.{funds, charge, removed}
+use Rattle.script_model.specs.Meaning.{Meaning}
+use Rattle.script_model.specs.Levels.{Level, Config, Effect, Asked, Charged, Removed, Outcome, is_going_on, limit_in}
+use Rattle.script_model.specs.GraftStep.{micro}
+use Rattle.script_model.specs.History.{Mark, Stepped, Fell, Trace, begin_with, begin_at}
+use Rattle.script_model.specs.History.{first_trace, trace_after, stepped, is_found}
+use Rattle.script_model.specs.History.{with_accounts_of, config_if, effect, effects_on, level_ends}
+use Rattle.script_model.specs.History.{owner_among, fallen_if, fell_on, mark_on, marks_on}
+use Rattle.script_model.specs.Kernel.{Call, Kernel}
+use Rattle.script_model.specs.Blocking.{config_in, config_of, trace_of}
 use Rattle.kernel_laws.proofs.LevelLemmas.{each_contains}
 use Rattle.session_laws.specs.Counts.{HistoriesKeepCounts, CallsKeepCounts, CallsFit, RunsFit}
 use Rattle.session_laws.specs.Sessions.{RunsAreSound}
-use Rattle.session_laws.proofs.CountLemmas.{Fits, LevelFits, AllFit, none_fits, all_stay, charge_stays, remove_stays, touch_fits, answer_fits, micro_fits, counts_fit}
+use Rattle.session_laws.proofs.CountLemmas.{Fits, LevelFits, AllFit, none_fits, all_stay}
+use Rattle.session_laws.proofs.CountLemmas.{charge_stays, remove_stays, touch_fits, answer_fits}
+use Rattle.session_laws.proofs.CountLemmas.{micro_fits, counts_fit}
 
 -- a config, if there is one, has counts within limits
 abbrev ConfigFits : Option Config → Type 0

@@ -1,22 +1,22 @@
 -- Every system call is answered: once, and by what it is now. So is every `step`.
 use Rattle.std.specs.Prelude.{◌≡◌, ◌≢◌, ℕ, suc, ◌≤◌, Bool, true, false, not, List, [], ◌∷◌, ◌++◌}
 use Rattle.std.specs.Prelude.{length, filter, Some, None}
-use Rattle.kernel_model.specs.declared.Event.TheVariants.{Step, Sys}
-use Rattle.kernel_model.specs.declared.Keys.{Keys}
-use Rattle.kernel_model.specs.declared.Note.{Note}
-use Rattle.kernel_model.specs.declared.Note.TheVariants.{Ran, Waits, InGraft}
-use Rattle.kernel_model.specs.declared.SysCall.{SysCall}
-use Rattle.kernel_model.specs.World.{Blocks}
-use Rattle.kernel_model.specs.Directory.{Disk}
-use Rattle.kernel_model.specs.Policies.{lives}
-use Rattle.kernel_model.specs.Meaning.{Meaning}
-use Rattle.kernel_model.specs.Levels.{Level}
-use Rattle.kernel_model.specs.Kernel.{Call, Blocker, Kernel, Run}
-use Rattle.kernel_model.specs.Blocking.{number_of_call, same_call, levels_of, blocker}
-use Rattle.kernel_model.specs.Events.{MOST_STEPS, in_order, event}
-use Rattle.kernel_model.specs.Session.{Build}
-use Rattle.kernel_model.specs.Sound.{IsSoundKernel, IsAtRest, HasWholeBlocks}
-use Rattle.history_laws.specs.Notes.{is_end}
+use Rattle.script_model.specs.declared.Event.TheVariants.{Step, Sys}
+use Rattle.script_model.specs.declared.Keys.{Keys}
+use Rattle.script_model.specs.declared.Note.{Note}
+use Rattle.script_model.specs.declared.Note.TheVariants.{Ran, Waits, InGraft}
+use Rattle.script_model.specs.declared.SysCall.{SysCall}
+use Rattle.script_model.specs.World.{Blocks}
+use Rattle.script_model.specs.Directory.{Disk}
+use Rattle.script_model.specs.Policies.{lives}
+use Rattle.script_model.specs.Meaning.{Meaning}
+use Rattle.script_model.specs.Levels.{Level}
+use Rattle.script_model.specs.Kernel.{Call, Blocker, Kernel, Run}
+use Rattle.script_model.specs.Blocking.{number_of_call, same_call, levels_of, blocker}
+use Rattle.script_model.specs.Events.{MOST_STEPS, in_order, event}
+use Rattle.script_model.specs.Session.{Build}
+use Rattle.script_model.specs.Sound.{IsSoundKernel, IsAtRest, HasWholeBlocks}
+use Rattle.graft_laws.specs.Notes.{is_end}
 use Rattle.session_laws.specs.NoteNumbers.{number_of, numbered, is_answer}
 use Rattle.session_laws.specs.Sessions.{run_of, IsRunnable}
 
@@ -62,7 +62,7 @@ pub record IsTold (m : Meaning) (p n : ℕ) (r : Run) : Type 0 where
 
 -- Each call that a kernel has in flight waits or is in a graft, and event n is answered, whichever
 -- system call or `step` it is, and whichever calls of the disk fail.
-pub record Answers (m : Meaning) (k : Kernel) (blocks : Blocks) (n : ℕ) : Type 0 where
+pub record AnswersNext (m : Meaning) (k : Kernel) (blocks : Blocks) (n : ℕ) : Type 0 where
   pub in_flight : (p : ℕ) (c : Call) → k.call p ≡ Some c →
       (x : Note) × (number_of x ≡ c.number) × SaysWhere m k p x
   pub calls : (p : ℕ) (call : SysCall) (io : List Bool) →
@@ -74,7 +74,7 @@ pub record Answers (m : Meaning) (k : Kernel) (blocks : Blocks) (n : ℕ) : Type
 abbrev pub EventsAreAnswered : Meaning → Type 0
 EventsAreAnswered m =
     (k : Kernel) (blocks : Blocks) (n : ℕ) → IsSoundKernel m k → IsAtRest m k →
-    HasWholeBlocks k.world blocks → ((p : ℕ) → has_call k p n ≡ false) → Answers m k blocks n
+    HasWholeBlocks k.world blocks → ((p : ℕ) → has_call k p n ≡ false) → AnswersNext m k blocks n
 
 -- and so it is in each kernel of a run over a disk of whole blocks, for the next event's number
 abbrev pub RunsAnswer : Type 0
@@ -82,4 +82,4 @@ RunsAnswer =
     (b : Build) (keys : Keys) (d : Disk) (texts : List (List ℕ)) (ios : List (List Bool))
     (k : Kernel) →
     IsRunnable b d → (run_of b keys d texts ios).kernel ≡ Some k →
-    Answers b.meaning k (run_of b keys d texts ios).blocks (suc (run_of b keys d texts ios).events)
+    AnswersNext b.meaning k (run_of b keys d texts ios).blocks (suc (run_of b keys d texts ios).events)

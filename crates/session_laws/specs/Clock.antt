@@ -1,11 +1,11 @@
 -- What the clock of a run counts.
 use Rattle.std.specs.Prelude.{◌≡◌, ℕ, ◌+◌, ◌≤◌, Bool, true, false, ◌&&◌, List, [], ◌∷◌, is_some, Some, Result, Ok, Err}
-use Rattle.kernel_model.specs.declared.Keys.{Keys}
-use Rattle.kernel_model.specs.Directory.{Disk}
-use Rattle.kernel_model.specs.Kernel.{Kernel}
-use Rattle.kernel_model.specs.Script.{Entry, Happens, ScriptFault, parsed_line}
-use Rattle.kernel_model.specs.Session.{Build, Session, first_session, after_line, first_io, later_io}
-use Rattle.kernel_model.specs.Sound.{once_if}
+use Rattle.script_model.specs.declared.Keys.{Keys}
+use Rattle.script_model.specs.Directory.{Disk}
+use Rattle.script_model.specs.Kernel.{Kernel}
+use Rattle.script_model.specs.Script.{Entry, Happens, ScriptFault, parsed_line}
+use Rattle.script_model.specs.Session.{Build, Session, first_session, after_line, first_io, later_io}
+use Rattle.script_model.specs.Sound.{once_if}
 use Rattle.kernel_laws.specs.Clock.{is_tick}
 use Rattle.session_laws.specs.Sessions.{run_of}
 
@@ -24,8 +24,7 @@ abbrev pub is_tick_line : Session → List ℕ → Bool
 is_tick_line s text =
     elim s.refused [
       | true ↦ false
-      | false ↦ says_tick (parsed_line (is_some s.kernel) text)
-          && is_some s.kernel
+      | false ↦ says_tick (parsed_line (is_some s.kernel) text) && is_some s.kernel
     ]
 
 -- how many of these lines are

@@ -1,17 +1,17 @@
 -- How many instructions the levels of a graft call have taken.
 use Rattle.std.specs.Prelude.{◌≡◌, ℕ, ◌≤◌, Bool, List, Some, Contains}
-use Rattle.kernel_model.specs.declared.Keys.{Keys}
-use Rattle.kernel_model.specs.World.{World, ImageTable}
-use Rattle.kernel_model.specs.Objects.{Objects, GraftValue}
-use Rattle.kernel_model.specs.Directory.{Disk}
-use Rattle.kernel_model.specs.Meaning.{Meaning, Stage}
-use Rattle.kernel_model.specs.Levels.{Level, Config, limit_in}
-use Rattle.kernel_model.specs.GraftStep.{micro}
-use Rattle.kernel_model.specs.History.{Mark, Trace, replay}
-use Rattle.kernel_model.specs.Kernel.{Kernel}
-use Rattle.kernel_model.specs.Blocking.{config_of}
-use Rattle.kernel_model.specs.Session.{Build}
-use Rattle.kernel_model.specs.Sound.{IsSoundKernel}
+use Rattle.script_model.specs.declared.Keys.{Keys}
+use Rattle.script_model.specs.World.{World, ImageTable}
+use Rattle.script_model.specs.Objects.{Objects, GraftValue}
+use Rattle.script_model.specs.Directory.{Disk}
+use Rattle.script_model.specs.Meaning.{Meaning, Stage}
+use Rattle.script_model.specs.Levels.{Level, Config, limit_in}
+use Rattle.script_model.specs.GraftStep.{micro}
+use Rattle.script_model.specs.History.{Mark, Trace, replay}
+use Rattle.script_model.specs.Kernel.{Kernel}
+use Rattle.script_model.specs.Blocking.{config_of}
+use Rattle.script_model.specs.Session.{Build}
+use Rattle.script_model.specs.Sound.{IsSoundKernel}
 use Rattle.session_laws.specs.Sessions.{run_of, IsRunnable}
 
 -- each level whose graft stands has taken at most as many instructions as that graft's limit

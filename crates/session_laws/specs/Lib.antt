@@ -6,3 +6,6 @@ pub mod Sessions
 pub mod Slices
 pub mod Spending
 pub mod Syncs
+pub mod Shown
+pub mod Sent
+pub mod Served

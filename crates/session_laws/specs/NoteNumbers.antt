@@ -1,8 +1,8 @@
 -- The numbers that notes bear, and which notes are answers.
 use Rattle.std.specs.Prelude.{ℕ, ◌==◌, Bool, true, List, filter}
-use Rattle.kernel_model.specs.declared.Note.{Note}
-use Rattle.kernel_model.specs.declared.Note.TheVariants.{Ticked, Ended, Refused, Gave, Dropped, Ran, Waits, InGraft}
-use Rattle.history_laws.specs.Notes.{is_end}
+use Rattle.script_model.specs.declared.Note.{Note}
+use Rattle.script_model.specs.declared.Note.TheVariants.{Ticked, Ended, Refused, Gave, Dropped, Ran, Waits, InGraft}
+use Rattle.graft_laws.specs.Notes.{is_end}
 
 -- the number that a note bears
 abbrev pub number_of : Note → ℕ

@@ -1,11 +1,12 @@
 -- Whole runs: sessions over a disk, from the first on.
 use Rattle.std.specs.Prelude.{◌≡◌, ℕ, ◌<◌, ◌≤◌, Bool, List, length, Some}
-use Rattle.kernel_model.specs.declared.Keys.{Keys}
-use Rattle.kernel_model.specs.Directory.{Disk}
-use Rattle.kernel_model.specs.Kernel.{Kernel}
-use Rattle.kernel_model.specs.Laws.{Laws}
-use Rattle.kernel_model.specs.Session.{Build, Session, first_session, session_after}
-use Rattle.kernel_model.specs.Sound.{IsSoundKernel, HasWholeBlocks}
+use Rattle.script_model.specs.declared.Keys.{Keys}
+use Rattle.script_model.specs.Directory.{Disk}
+use Rattle.script_model.specs.Kernel.{Kernel}
+use Rattle.script_model.specs.Laws.{Laws}
+use Rattle.script_model.specs.Meaning.{Meaning}
+use Rattle.script_model.specs.Session.{Build, Session, first_session, session_after}
+use Rattle.script_model.specs.Sound.{IsSoundKernel, HasWholeBlocks}
 
 -- the session over a disk after these lines, with one list for each line's calls of the disk
 abbrev pub run_of : Build → Keys → Disk → List (List ℕ) → List (List Bool) → Session
@@ -27,3 +28,17 @@ RunsAreSound =
     IsRunnable b d →
     (run_of b keys d texts ios).kernel ≡ Some k →
     IsSoundKernel b.meaning k × HasWholeBlocks k.world (run_of b keys d texts ios).blocks
+
+-- a session after boot, whose kernel is sound and whose blocks are whole
+pub record IsSoundSession (m : Meaning) (s : Session) : Type 0 where
+  pub kernel : Kernel
+  pub is : s.kernel ≡ Some kernel
+  pub sound : IsSoundKernel m kernel
+  pub blocks : HasWholeBlocks kernel.world s.blocks
+
+-- lines keep it so, whatever they say
+abbrev pub LinesStaySound : Type 0
+LinesStaySound =
+    (b : Build) (keys : Keys) (size : ℕ) (s : Session) (texts : List (List ℕ))
+    (ios : List (List Bool)) → Laws b.meaning →
+    IsSoundSession b.meaning s → IsSoundSession b.meaning (session_after b keys size s texts ios)

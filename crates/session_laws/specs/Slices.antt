@@ -1,11 +1,11 @@
 -- How many slices the processes of a run have.
 use Rattle.std.specs.Prelude.{◌≡◌, ℕ, ◌+◌, ◌≤◌, Bool, List, Some, is_some}
-use Rattle.kernel_model.specs.declared.Keys.{Keys}
-use Rattle.kernel_model.specs.Directory.{Disk}
-use Rattle.kernel_model.specs.Kernel.{Kernel}
-use Rattle.kernel_model.specs.Laws.{slices_in}
-use Rattle.kernel_model.specs.Session.{Build}
-use Rattle.kernel_model.specs.Sound.{once_if, sum_below}
+use Rattle.script_model.specs.declared.Keys.{Keys}
+use Rattle.script_model.specs.Directory.{Disk}
+use Rattle.script_model.specs.Kernel.{Kernel}
+use Rattle.script_model.specs.Laws.{slices_in}
+use Rattle.script_model.specs.Session.{Build}
+use Rattle.script_model.specs.Sound.{once_if, sum_below}
 use Rattle.session_laws.specs.Sessions.{run_of, IsRunnable}
 
 -- how many calls are in flight

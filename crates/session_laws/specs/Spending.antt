@@ -1,12 +1,12 @@
 -- What an instruction of a graft call spends, and who has spent it.
 use Rattle.std.specs.Prelude.{◌≡◌, ◌≢◌, ℕ, ◌+◌, ◌<◌, true, false, List, ◌∷◌}
-use Rattle.kernel_model.specs.declared.Kind.{Kind}
-use Rattle.kernel_model.specs.declared.Kind.TheVariants.{Steps}
-use Rattle.kernel_model.specs.World.{World, ImageTable}
-use Rattle.kernel_model.specs.Objects.{Objects, Accounts}
-use Rattle.kernel_model.specs.Levels.{Level}
-use Rattle.kernel_model.specs.GraftStep.{is_spent, micro}
-use Rattle.kernel_model.specs.Sound.{ledger}
+use Rattle.script_model.specs.declared.Kind.{Kind}
+use Rattle.script_model.specs.declared.Kind.TheVariants.{Steps}
+use Rattle.script_model.specs.World.{World, ImageTable}
+use Rattle.script_model.specs.Objects.{Objects, Accounts}
+use Rattle.script_model.specs.Levels.{Level}
+use Rattle.script_model.specs.GraftStep.{is_spent, micro}
+use Rattle.script_model.specs.Sound.{ledger}
 
 -- how many steps a process has spent
 abbrev pub steps_of : Accounts → ℕ → ℕ

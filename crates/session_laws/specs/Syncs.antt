@@ -1,14 +1,14 @@
 -- What a `sync` keeps, whether it ends well or is refused: it writes dirty frames back, and changes
 -- nothing else.
 use Rattle.std.specs.Prelude.{◌≡◌, ℕ, Bool, false, List, Option, Some, ◌⊎◌}
-use Rattle.kernel_model.specs.declared.SysCall.TheVariants.{Sync}
-use Rattle.kernel_model.specs.World.{World, Blocks}
-use Rattle.kernel_model.specs.Objects.{Objects, FrameValue}
-use Rattle.kernel_model.specs.Fetch.{dirty_value}
-use Rattle.kernel_model.specs.Meaning.{Piece}
-use Rattle.kernel_model.specs.FilePieces.{with_cache}
-use Rattle.kernel_model.specs.Pieces.{piece_of}
-use Rattle.kernel_model.specs.Sound.{IsSoundStore}
+use Rattle.script_model.specs.declared.SysCall.TheVariants.{Sync}
+use Rattle.script_model.specs.World.{World, Blocks}
+use Rattle.script_model.specs.Objects.{Objects, FrameValue}
+use Rattle.script_model.specs.Fetch.{dirty_value}
+use Rattle.script_model.specs.Meaning.{Piece}
+use Rattle.script_model.specs.FilePieces.{with_cache}
+use Rattle.script_model.specs.Pieces.{piece_of}
+use Rattle.script_model.specs.Sound.{IsSoundStore}
 
 -- a frame was written back: it was dirty and is clean, and the disk has its bytes
 pub record IsWrittenBack (s : Objects) (q : Piece) (frame : ℕ) : Type 0 where

@@ -2,7 +2,7 @@
 
 ghost use Rattle.session_laws.specs.Answers.{EventsAreAnswered, RunsAnswer};
 
-use kernel_model::Rules;
+use script_model::Rules;
 
 /// In a sound kernel that rests each call in flight waits or is in a graft, and the next system
 /// call is answered: once, and by what it is then. So is the next `step`.

@@ -3,7 +3,7 @@
 ghost use Rattle.session_laws.specs.Counts.{InstructionsKeepCounts, HistoriesKeepCounts, CallsKeepCounts};
 ghost use Rattle.session_laws.specs.Counts.{CallsFit, RunsFit};
 
-use kernel_model::Rules;
+use script_model::Rules;
 
 /// An instruction leaves the count of each level whose graft stands within that graft's limit.
 pub fn instructions_keep_counts()

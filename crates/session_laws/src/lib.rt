@@ -4,9 +4,8 @@
 pub mod answers;
 pub mod clock;
 pub mod counts;
+pub mod served;
 pub mod sessions;
 pub mod slices;
 pub mod spending;
 pub mod syncs;
-#[cfg(test)]
-mod tests;

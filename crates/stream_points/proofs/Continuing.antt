@@ -1,5 +1,6 @@
 -- Stream calls that go on: a call has its second piece before it, with bytes that fit.
-use Rattle.std.proofs.Common.{◌≡◌, ℕ, ◌+◌, ◌-◌, ◌<◌, ◌≤◌, min, List, length, Option, None, Some, Result, Ok, true, refl, sym, subst, arith}
+use Rattle.std.proofs.Common.{◌≡◌, ℕ, ◌+◌, ◌-◌, ◌<◌, ◌≤◌, min, List, length, Option, None, Some}
+use Rattle.std.proofs.Common.{Result, Ok, true, refl, sym, subst, arith}
 use Rattle.std.specs.List.{slice_index}
 use Rattle.std.proofs.lemmas.Bool.Decides.{nat_tests}
 use Rattle.std.proofs.lemmas.List.FromFn.{length-map-range_with_len}
@@ -11,10 +12,11 @@ use Rattle.kernel_model.specs.Runs.{segment_of}
 use Rattle.kernel_model.specs.Objects.{Objects}
 use Rattle.kernel_model.specs.Meaning.{HasWholeBody}
 use Rattle.kernel_model.specs.Laws.{IsRightAnswer}
-use Rattle.kernel_model.specs.StreamPoints.{WRITE_POINT, through, stream_point, stream_write_asks, stream_fits, stream_left}
-use Rattle.stream_rules.specs.Carried.{through_length}
-use Rattle.call_needs.specs.declared.Work.{Work}
-use Rattle.call_needs.specs.Works.{call_of, stage_of, answer_seen, registers_seen}
+use Rattle.kernel_model.specs.StreamPoints.{WRITE_POINT, through, stream_point, stream_write_asks}
+use Rattle.kernel_model.specs.StreamPoints.{stream_fits, stream_left}
+use Rattle.call_pieces.specs.StreamCarried.{through_length}
+use Rattle.call_pieces.specs.declared.Work.{Work}
+use Rattle.call_pieces.specs.Works.{call_of, stage_of, answer_seen, registers_seen}
 use Rattle.stream_points.specs.Streams.{StreamContinues, with_carried}
 
 -- ---- what comes out of a point
@@ -42,22 +44,6 @@ out_length s r b p i off fd given ram answer few is right =
     (whole_body ram p answer)
 
 -- ---- the second piece
-
--- a stream read goes on with at most a block's bytes, of a block that a file may have
-pub read_continues : (w new : Work) (fd i off len : ℕ) (bytes : List ℕ) →
-    call_of w ≡ StreamRead fd i off len → w.piece ≡ 0 → length bytes ≤ 512 → i < 4096 →
-    new ≡ with_carried bytes w → StreamContinues w new
-read_continues w new fd i off len bytes is first few low so =
-    subst (λ (x : Work). StreamContinues w x) (sym so)
-    (record {
-      caller = refl;
-      call = refl;
-      fits = subst (λ (k : SysCall). stream_fits k (stage_of (with_carried bytes w)) ≡ true) (sym is)
-          (grind (arith, nat_tests));
-      some = subst (λ (k : SysCall). 1 ≤ stream_left k 1) (sym is) (omega arith);
-      fewer = subst (λ (k : SysCall). stream_left k 1 < stream_left k w.piece) (sym is)
-          (subst (λ n. 2 - 1 < 2 - n) (sym first) (omega arith));
-    })
 
 -- a stream write goes on with bytes that fit into its block
 pub write_continues : (w new : Work) (fd i off : ℕ) (given out : List ℕ) →

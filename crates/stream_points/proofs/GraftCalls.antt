@@ -1,5 +1,6 @@
 -- The calls of this table on grafts, which are those of the plain table.
-use Rattle.std.proofs.Common.{◌≡◌, ℕ, ◌<◌, ◌&&◌, ◌==◌, Bool, true, false, cond, List, Option, Some, refl, sym, ap, ◌∙◌, subst, arith}
+use Rattle.std.proofs.Common.{◌≡◌, ℕ, ◌<◌, ◌&&◌, ◌==◌, Bool, true, false, cond, List, Option, Some}
+use Rattle.std.proofs.Common.{refl, sym, ap, ◌∙◌, subst, arith}
 use Rattle.std.specs.Result.{is_ok}
 use Rattle.std.proofs.lemmas.Bool.Decides.{nat_tests}
 use Rattle.kernel_model.specs.declared.BareCall.{BareCall}
@@ -16,7 +17,7 @@ use Rattle.kernel_model.specs.Early.{plain_early, begins_unless}
 use Rattle.kernel_model.specs.Needs.{piece_ask}
 use Rattle.kernel_model.specs.Pieces.{piece_fits, pieces_left, piece_of}
 use Rattle.kernel_model.specs.StreamPoints.{is_stream_point, stream_points, stream_fits, stream_ask, stream_piece}
-use Rattle.call_needs.specs.Works.{IsDue, IsPlainDue, answer_seen}
+use Rattle.call_pieces.specs.Works.{IsDue, IsPlainDue, answer_seen}
 
 -- the call is one of those on grafts
 abbrev is_graft_call : SysCall → Bool

@@ -13,9 +13,9 @@ use Rattle.kernel_model.specs.Policies.{lives}
 use Rattle.kernel_model.specs.Meaning.{stage}
 use Rattle.kernel_model.specs.Early.{call_refusal, begins_unless}
 use Rattle.kernel_model.specs.StreamPoints.{is_stream_call, stream_refusal, stream_left, stream_points}
-use Rattle.stream_rules.specs.StreamLaws.{laws_of_stream_points}
-use Rattle.call_needs.specs.Masks.{table_of_mask, mask_tells}
-use Rattle.call_needs.specs.Works.{IsDue}
+use Rattle.call_pieces.specs.StreamLaws.{laws_of_stream_points}
+use Rattle.call_pieces.specs.Masks.{table_of_mask, mask_tells}
+use Rattle.call_pieces.specs.Works.{IsDue}
 
 -- ---- refusals
 

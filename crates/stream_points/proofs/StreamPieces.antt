@@ -1,5 +1,6 @@
 -- The pieces of a stream read and a stream write, by which of the two they are.
-use Rattle.std.proofs.Common.{◌≡◌, ℕ, ◌+◌, zero, suc, Bool, List, [], Option, Some, None, Ok, length, slice_range, refl, sym, ap, subst, ◌∙◌}
+use Rattle.std.proofs.Common.{◌≡◌, ℕ, ◌+◌, zero, suc, Bool, List, [], Option, Some, None, Ok}
+use Rattle.std.proofs.Common.{length, slice_range, refl, sym, ap, subst, ◌∙◌}
 use Rattle.kernel_model.specs.declared.SysCall.{SysCall}
 use Rattle.kernel_model.specs.declared.BareCall.{BareCall}
 use Rattle.kernel_model.specs.declared.BareCall.TheVariants as bare
@@ -10,10 +11,11 @@ use Rattle.kernel_model.specs.Meaning.{Stage, Answer, Piece, After, Continues, r
 use Rattle.kernel_model.specs.Needs.{file_block}
 use Rattle.kernel_model.specs.Fetch.{Fetched, Got, bytes_of}
 use Rattle.kernel_model.specs.FilePieces.{leaves, well, with_cache, write_piece}
-use Rattle.kernel_model.specs.StreamPoints.{through, stream_taken, stream_read_piece, stream_write_piece, stream_piece, stream_changed}
-use Rattle.call_needs.specs.declared.Work.{Work}
-use Rattle.call_needs.specs.Works.{call_of, stage_of, answer_seen, registers_seen}
-use Rattle.call_needs.specs.Fetching.{FetchLeft, FetchMatches, blocks_after}
+use Rattle.kernel_model.specs.StreamPoints.{through, stream_taken, stream_read_piece}
+use Rattle.kernel_model.specs.StreamPoints.{stream_write_piece, stream_piece, stream_changed}
+use Rattle.call_pieces.specs.declared.Work.{Work}
+use Rattle.call_pieces.specs.Works.{call_of, stage_of, answer_seen, registers_seen}
+use Rattle.call_pieces.specs.Fetching.{FetchLeft, FetchMatches, blocks_after}
 use Rattle.call_pieces.specs.Matching.{PieceLeaves, PieceMatches}
 
 -- ---- stream reads

@@ -4,12 +4,12 @@ use Rattle.std.specs.Prelude.{◌≡◌, ℕ, ◌<◌, ◌≤◌, Bool, true, Li
 use Rattle.kernel_model.specs.World.{Blocks}
 use Rattle.kernel_model.specs.Meaning.{Piece}
 use Rattle.kernel_model.specs.StreamPoints.{stream_fetches, stream_fits, stream_left}
-use Rattle.kernel_state.specs.declared.Store.{Store}
-use Rattle.kernel_state.specs.Stores.{world_of_store, objects_of}
-use Rattle.call_needs.specs.declared.Access.{Access}
-use Rattle.call_needs.specs.declared.Work.{Work}
-use Rattle.call_needs.specs.Needing.{block_meant}
-use Rattle.call_needs.specs.Works.{call_of, stage_of, answer_seen}
+use Rattle.call_pieces.specs.declared.Store.{Store}
+use Rattle.call_pieces.specs.Stores.{world_of_store, objects_of}
+use Rattle.call_pieces.specs.declared.Access.{Access}
+use Rattle.call_pieces.specs.declared.Work.{Work}
+use Rattle.call_pieces.specs.Needing.{block_meant}
+use Rattle.call_pieces.specs.Works.{call_of, stage_of, answer_seen}
 
 -- a call after its first piece, which took these bytes into it
 abbrev pub with_carried : List ℕ → Work → Work

@@ -6,14 +6,12 @@ ghost use Rattle.kernel_model.specs.ImageMask.{TellsImages};
 ghost use Rattle.kernel_model.specs.Bare.{call_with};
 ghost use Rattle.kernel_model.specs.StreamPoints as spec;
 ghost use Rattle.kernel_model.specs.Policies.{lives};
-ghost use Rattle.kernel_state.specs.Stores.{world_of_store, objects_of, queue_of};
-ghost use Rattle.call_needs.specs.Works.{IsDue, begun, stage_of, stage_granted};
+ghost use Rattle.call_pieces.specs.Stores.{world_of_store, objects_of, queue_of};
+ghost use Rattle.call_pieces.specs.Works.{IsDue, begun, stage_of, stage_granted};
 
 use arrayvec::ArrayVec;
-use call_needs::{Work, refusal_upto};
-use graft_points::Policy;
+use call_pieces::{Policy, Store, Work, refusal_upto};
 use kernel_model::{BLOCK_BYTES, BareCall, Refusal};
-use kernel_state::Store;
 
 /// The point of stream reads.
 pub(crate) const READ_POINT: u8 = 14;
@@ -36,10 +34,10 @@ pub(crate) fn is_stream_call(call: BareCall) -> bool
     ensures { (bytes : List ℕ) → result ≡ spec.is_stream_call (call_with call bytes) }
 {
     match call {
-        BareCall::StreamRead(_, _, _, _) | BareCall::StreamWrite(_, _, _) => true,
-        BareCall::Install(pt, _, _)
+        BareCall::StreamRead { .. } | BareCall::StreamWrite { .. } => true,
+        BareCall::Install { point: pt, .. }
         | BareCall::Remove(pt)
-        | BareCall::Fund(pt, _, _)
+        | BareCall::Fund { point: pt, .. }
         | BareCall::Bill(pt) => is_stream_point(pt),
         _ => false,
     }
@@ -47,7 +45,7 @@ pub(crate) fn is_stream_call(call: BareCall) -> bool
 
 /// A call of process p, which lives, before its first piece; or its refusal of least number that
 /// needs no object, and the work stays as it was. Bit k of `images` tells whether image k is loaded.
-pub(crate) fn begin<B: Policy>(
+pub(crate) fn admit<B: Policy>(
     store: &Store<B>,
     images: u32,
     p: u8,
@@ -67,7 +65,7 @@ pub(crate) fn begin<B: Policy>(
     if let Some(refusal) = refusal(store, images, p, call, bytes.as_slice()) {
         return Err(refusal);
     }
-    work.begin(p, call, bytes);
+    work.set_call(p, call, bytes);
     Ok(())
 }
 
@@ -85,12 +83,30 @@ fn refusal<B: Policy>(
         result ≡ spec.stream_refusal (world_of_store store.now) table p (call_with call bytes.now) }
 {
     match call {
-        BareCall::StreamRead(fd, i, off, len) => {
-            let read = BareCall::Read(fd, i, off, len);
+        BareCall::StreamRead {
+            descriptor: fd,
+            block: i,
+            offset: off,
+            length: len,
+        } => {
+            let read = BareCall::Read {
+                descriptor: fd,
+                block: i,
+                offset: off,
+                length: len,
+            };
             refusal_upto::<TOP_POINT, B>(store, images, p, read, bytes)
         }
-        BareCall::StreamWrite(fd, i, off) => {
-            let write = BareCall::Write(fd, i, off);
+        BareCall::StreamWrite {
+            descriptor: fd,
+            block: i,
+            offset: off,
+        } => {
+            let write = BareCall::Write {
+                descriptor: fd,
+                block: i,
+                offset: off,
+            };
             refusal_upto::<TOP_POINT, B>(store, images, p, write, bytes)
         }
         _ if is_stream_call(call) => { refusal_upto::<TOP_POINT, B>(store, images, p, call, bytes) }

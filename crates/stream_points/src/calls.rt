@@ -2,18 +2,12 @@
 
 ghost use Rattle.kernel_model.specs.StreamPoints.{is_stream_call};
 
-use crate::begin::{begin, is_stream_call};
+use crate::begin::{admit, is_stream_call};
 use crate::needs::{asks, feed, need};
 use crate::pieces::piece;
 use arrayvec::ArrayVec;
-use call_needs::{Gift, Needs, Work};
-use call_pieces::{Calls, Next};
-use disk_log::DiskLog;
-use graft_points::Policy;
+use call_pieces::{Calls, Disk, DiskLog, Gift, Needs, Next, Policy, Store, StreamRules, Work};
 use kernel_model::{BLOCK_BYTES, BareCall, Point, Refusal};
-use kernel_state::Store;
-use stream_rules::StreamRules;
-use vino_base::Disk;
 
 /// The table of stream points: `sread` and `swrite`, and `install`, `remove`, `fund` and `bill` at
 /// points 14 and 15.
@@ -41,7 +35,7 @@ impl Calls for StreamPoints {
         bytes: &ArrayVec<u8, BLOCK_BYTES>,
         work: &mut Work,
     ) -> Result<(), Refusal> {
-        begin(store, images, p, call, bytes, work)
+        admit(store, images, p, call, bytes, work)
     }
 
     fn need<B: Policy>(work: &Work, store: &Store<B>, needs: &mut Needs) {

@@ -3,15 +3,13 @@
 ghost use Rattle.std.specs.Prelude.{◌≡◌, ◌<◌, ◌≤◌, true, [], Some, length};
 ghost use Rattle.kernel_model.specs.StreamPoints as spec;
 ghost use Rattle.kernel_model.specs.Policies.{lives};
-ghost use Rattle.kernel_state.specs.Stores.{world_of_store, objects_of, queue_of};
-ghost use Rattle.call_needs.specs.Works.{IsDue, call_of, stage_of};
+ghost use Rattle.call_pieces.specs.Stores.{world_of_store, objects_of, queue_of};
+ghost use Rattle.call_pieces.specs.Works.{IsDue, call_of, stage_of};
 
 use crate::begin::{READ_POINT, WRITE_POINT};
 use crate::streams::Range;
-use call_needs::{Access, Needs, Work, block_ask};
-use graft_points::Policy;
+use call_pieces::{Access, Needs, Policy, Store, Work, block_ask};
 use kernel_model::{BareCall, Object, Point};
-use kernel_state::Store;
 
 /// The objects that the next piece of a call needs, in order. They take the place of what the list
 /// had.
@@ -24,15 +22,24 @@ pub(crate) fn need<B: Policy>(work: &Work, store: &Store<B>, needs: &mut Needs)
     needs.clear();
     let p = work.caller;
     match work.call {
-        BareCall::StreamRead(fd, i, off, len) => {
+        BareCall::StreamRead {
+            descriptor: fd,
+            block: i,
+            offset: off,
+            length: len,
+        } => {
             let range = Range { fd, i, off, len };
             read_needs(work.piece, store, p, range, needs);
         }
-        BareCall::StreamWrite(fd, i, off) => write_needs(work, store, fd, i, off, needs),
-        BareCall::Install(pt, _, _) | BareCall::Bill(pt) => {
+        BareCall::StreamWrite {
+            descriptor: fd,
+            block: i,
+            offset: off,
+        } => write_needs(work, store, fd, i, off, needs),
+        BareCall::Install { point: pt, .. } | BareCall::Bill(pt) => {
             needs.exclusive(Object::Graft(p, pt as u8))
         }
-        BareCall::Remove(pt) | BareCall::Fund(pt, _, _) => needs.point(store, p, pt as u8),
+        BareCall::Remove(pt) | BareCall::Fund { point: pt, .. } => needs.point(store, p, pt as u8),
         _ => {}
     }
 }
@@ -110,11 +117,20 @@ pub(crate) fn asks<B: Policy>(work: &Work, store: &Store<B>) -> Option<Point>
         (world_of_store store.now) (objects_of store.now).things work.now.caller }
 {
     match work.call {
-        BareCall::StreamRead(fd, i, off, len) => {
+        BareCall::StreamRead {
+            descriptor: fd,
+            block: i,
+            offset: off,
+            length: len,
+        } => {
             let range = Range { fd, i, off, len };
             read_ask(work, store, range)
         }
-        BareCall::StreamWrite(fd, i, off) => write_ask(work, store, fd, i, off),
+        BareCall::StreamWrite {
+            descriptor: fd,
+            block: i,
+            offset: off,
+        } => write_ask(work, store, fd, i, off),
         _ => None,
     }
 }
@@ -175,8 +191,8 @@ pub(crate) fn feed(work: &Work) -> &[u8]
     ensures few { length result.now ≤ 512 }
 {
     match work.call {
-        BareCall::StreamRead(_, _, _, _) => work.carried.as_slice(),
-        BareCall::StreamWrite(_, _, _) if work.piece == 0 => work.bytes.as_slice(),
+        BareCall::StreamRead { .. } => work.carried.as_slice(),
+        BareCall::StreamWrite { .. } if work.piece == 0 => work.bytes.as_slice(),
         _ => &[],
     }
 }

@@ -4,22 +4,19 @@ ghost use Rattle.std.specs.Prelude.{◌≡◌, ◌≤◌, true, List, Bool, [], 
 ghost use Rattle.kernel_model.specs.World.{Blocks};
 ghost use Rattle.kernel_model.specs.Laws.{IsRightAnswer};
 ghost use Rattle.kernel_model.specs.StreamPoints.{stream_points, stream_ask, stream_piece};
-ghost use Rattle.disk_log.specs.Calls.{Knows, Made};
-ghost use Rattle.kernel_state.specs.Stores.{world_of_store, objects_of, SegmentsStay};
-ghost use Rattle.call_needs.specs.Works.{IsDue, call_of, stage_of, answer_seen};
+ghost use Rattle.call_pieces.specs.Calls.{Knows, Made};
+ghost use Rattle.call_pieces.specs.Stores.{world_of_store, objects_of, SegmentsStay};
+ghost use Rattle.call_pieces.specs.Works.{IsDue, call_of, stage_of, answer_seen};
 ghost use Rattle.call_pieces.specs.Matching.{comes_after, PieceMatches, PieceMatchesSome};
 ghost use Rattle.call_pieces.specs.Matching.{ContinuesFrom, is_fault, goes_on};
-ghost use Rattle.call_needs.specs.Fetching.{has_failed};
+ghost use Rattle.call_pieces.specs.Fetching.{has_failed};
 
 use crate::streams::{change, give_out, take_block};
-use call_needs::laws::living_are_numbered;
-use call_needs::{Access, Gift, Work};
-use call_pieces::{Next, piece as plain_piece, write};
-use disk_log::DiskLog;
-use graft_points::Policy;
+use call_pieces::laws::living_are_numbered;
+use call_pieces::{
+    Access, Disk, DiskLog, Gift, Next, Policy, Store, Work, piece as plain_piece, write,
+};
 use kernel_model::{BareCall, Reply};
-use kernel_state::Store;
-use vino_base::Disk;
 
 /// The next piece of a call, with an answer to the point that it asks, or by default. The log starts
 /// empty and has this piece's calls of the disk then; the gift has what the piece gave, whatever it
@@ -64,7 +61,12 @@ pub(crate) fn piece<B: Policy, D: Disk>(
     let p = work.caller;
     living_are_numbered(store);
     match work.call {
-        BareCall::StreamRead(fd, i, off, len) if work.piece == 0 => {
+        BareCall::StreamRead {
+            descriptor: fd,
+            block: i,
+            offset: off,
+            length: len,
+        } if work.piece == 0 => {
             let access = Access {
                 p,
                 fd,
@@ -75,14 +77,20 @@ pub(crate) fn piece<B: Policy, D: Disk>(
             };
             take_block(work, store, disk, log, access)
         }
-        BareCall::StreamRead(_, _, _, _) => {
+        BareCall::StreamRead { .. } => {
             give_out(gave, store, p, answer, work.carried.as_slice());
             Next::Ends(Reply::Plain)
         }
-        BareCall::StreamWrite(fd, i, off) if work.piece == 0 => {
-            change(work, store, fd, i, off, answer)
-        }
-        BareCall::StreamWrite(fd, i, off) => {
+        BareCall::StreamWrite {
+            descriptor: fd,
+            block: i,
+            offset: off,
+        } if work.piece == 0 => { change(work, store, fd, i, off, answer) }
+        BareCall::StreamWrite {
+            descriptor: fd,
+            block: i,
+            offset: off,
+        } => {
             let bytes = work.carried.as_slice();
             let len = bytes.len() as u32;
             let access = Access {

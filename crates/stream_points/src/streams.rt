@@ -7,24 +7,22 @@ ghost use Rattle.kernel_model.specs.Needs.{fetch_ask};
 ghost use Rattle.kernel_model.specs.Laws.{IsRightAnswer};
 ghost use Rattle.kernel_model.specs.Policies.{lives};
 ghost use Rattle.kernel_model.specs.StreamPoints.{through, stream_changed, stream_write_asks};
-ghost use Rattle.disk_log.specs.Calls.{Knows};
-ghost use Rattle.kernel_state.specs.Stores.{world_of_store, objects_of, queue_of};
+ghost use Rattle.call_pieces.specs.Calls.{Knows};
+ghost use Rattle.call_pieces.specs.Stores.{world_of_store, objects_of, queue_of};
 ghost use Rattle.call_pieces.specs.Shared.{Serves};
-ghost use Rattle.call_needs.specs.Needing.{block_meant};
-ghost use Rattle.call_needs.specs.Fetching.{moment};
-ghost use Rattle.call_needs.specs.Works.{call_of, stage_of, answer_seen};
+ghost use Rattle.call_pieces.specs.Needing.{block_meant};
+ghost use Rattle.call_pieces.specs.Fetching.{store_moment};
+ghost use Rattle.call_pieces.specs.Works.{call_of, stage_of, answer_seen};
 ghost use Rattle.call_pieces.specs.Matching.{comes_after, PieceMatches, is_fault, goes_on};
 ghost use Rattle.stream_points.specs.Streams.{StreamContinues, taken_of, with_carried};
 
 use arrayvec::ArrayVec;
-use call_needs::laws::living_are_numbered;
-use call_needs::{Access, Gift, Work, copy_body, copy_bytes_of, fetch, plan_block};
-use call_pieces::Next;
-use disk_log::DiskLog;
-use graft_points::Policy;
+use call_pieces::laws::living_are_numbered;
+use call_pieces::{
+    Access, Disk, DiskLog, Gift, Next, Policy, Store, Work, copy_body, copy_bytes_of, fetch,
+    plan_block,
+};
 use kernel_model::{BLOCK_BYTES, Refusal};
-use kernel_state::Store;
-use vino_base::Disk;
 
 /// What a stream read asks for: bytes off to off + len of block i of the file at a descriptor.
 #[derive(Clone, Copy)]
@@ -53,7 +51,7 @@ pub(crate) fn take_block<B: Policy, D: Disk>(
     requires disk { store.old.size ≡ (D.seen disk.old).size }
     requires fresh { log.old ≡ [] }
     ensures done { Serves (taken_of store.old work.old r)
-        (moment store.old (D.seen disk.old) log.old) (moment store.new (D.seen disk.new) log.new)
+        (store_moment store.old (D.seen disk.old) log.old) (store_moment store.new (D.seen disk.new) log.new)
         None result (stage_of work.new) }
     ensures gone { goes_on result ≡ true → StreamContinues work.old work.new }
 {

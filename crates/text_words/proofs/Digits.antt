@@ -7,7 +7,7 @@ use Rattle.std.proofs.lemmas.List.{take_more}
 use Rattle.std.proofs.lemmas.List.Folds.{list_all_more}
 use Rattle.std.proofs.lemmas.List.Sums.{fold_push}
 use Rattle.std.proofs.lemmas.Str.Parse.{IsDigitsTest, IsNumeralModel, numerals_by_fold, digits_value_short}
-use Rattle.kernel_model.specs.Bytes.{is_digit, digits_value}
+use Rattle.kernel_data.specs.Bytes.{is_digit, digits_value}
 
 -- a text of digits, one digit at a time
 is_digits : IsDigitsTest (λ ds. list_all is_digit ds ≡ true)
@@ -28,15 +28,8 @@ pub record Digits (word : List ℕ) (i value : ℕ) : Type 0 where
   pub digits : list_all is_digit (take i word) ≡ true
   pub value_is : value ≡ digits_value (take i word)
 
--- one more digit
-pub Digits-more : (word : List ℕ) (i value : ℕ) → Digits word i value → i < length word → is_digit (get_or word i 0) ≡ true
-    → Digits word (i + 1) (value * 10 + (get_or word i 0 - 48))
-Digits-more word i value h within d =
-    record {
-      digits = rw (list_all_more is_digit word i 0 within) (rw h.digits (rw d refl));
-      value_is = rw (take_more word i 0 within) (rw fold_push (ap (λ n. n * 10 + (get_or word i 0 - 48)) h.value_is));
-    }
-
 -- the value of at most ten digits
 pub Digits-small : (word : List ℕ) (i value : ℕ) → Digits word i value → length word ≤ 10 → value < 10 ^ 10
-Digits-small word i value h short = rw h.value_is (digits_value_short own (take i word) 10 h.digits (omega (arith, length-take i word)))
+Digits-small word i value h short =
+    rw h.value_is
+    (digits_value_short own (take i word) 10 h.digits (omega (arith, length-take i word)))

@@ -1,2 +1,3 @@
 mod Splits
 mod Digits
+mod Passing

@@ -1,6 +1,6 @@
 //! The parts of a text between separators: lines between newlines, words between spaces.
 
-ghost use Rattle.std.specs.Prelude.{◌≡◌, ◌≤◌, ◌+◌, ◌==◌, ◌<◌, [], ◌∷◌, length, position, MatchOption, IfSome};
+ghost use Rattle.std.specs.Prelude.{◌≡◌, ◌≤◌, ◌+◌, ◌==◌, ◌<◌, [], ◌∷◌, length, position, slice_index_or, MatchOption, IfSome};
 ghost use Rattle.std.specs.List.{slice_split};
 ghost use Rattle.std.specs.Option.{option_copied};
 ghost use Rattle.text_words.specs.Parts.{parts_left};
@@ -72,5 +72,27 @@ impl<'a> Parts<'a> {
                 Some(part)
             }
         }
+    }
+}
+
+/// The k-th word of a line, from 0; nothing past their end.
+pub fn word_at(line: &[u8], k: usize) -> &[u8]
+    ensures { result.now ≡ slice_index_or (slice_split (λ b. b == 32) line.now) k [] }
+{
+    part_at(line, b' ', k)
+}
+
+#[tactic(auto, using(crate::proofs::Passing::taken, crate::proofs::Passing::past))]
+/// The k-th part of a text between separators, from 0; nothing past their end.
+pub fn part_at(text: &[u8], separator: u8, k: usize) -> &[u8]
+    ensures { result.now ≡ slice_index_or (slice_split (λ b. b == separator) text.now) k [] }
+{
+    let mut parts = Parts::new(text, separator);
+    for _ in 0..k {
+        let _ = parts.next();
+    }
+    match parts.next() {
+        Some(part) => part,
+        None => [].as_slice(),
     }
 }

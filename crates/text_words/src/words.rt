@@ -2,9 +2,8 @@
 
 ghost use Rattle.std.specs.Prelude.{◌≡◌, ◌<◌, length, position, IfSome};
 ghost use Rattle.std.specs.List.{list_all};
-ghost use Rattle.kernel_model.specs.World.{same_bytes};
-ghost use Rattle.kernel_model.specs.Bytes as model;
-ghost use Rattle.kernel_model.specs.Assembler as spec;
+ghost use Rattle.kernel_data.specs.World.{same_bytes};
+ghost use Rattle.kernel_data.specs.Bytes as model;
 
 /// The place of a name in a list of names.
 pub fn place_of(name: &[u8], names: &[&str]) -> Option<usize>
@@ -27,20 +26,20 @@ fn is_digit(b: u8) -> bool
 }
 
 fn is_label_byte(b: u8) -> bool
-    ensures { result ≡ spec.is_label_byte b }
+    ensures { result ≡ model.is_label_byte b }
 {
     is_letter(b) || is_digit(b) || b == b'_'
 }
 
 fn all_label_bytes(bytes: &[u8]) -> bool
-    ensures { result ≡ list_all spec.is_label_byte bytes.now }
+    ensures { result ≡ list_all model.is_label_byte bytes.now }
 {
     bytes.iter().all(|b| is_label_byte(*b))
 }
 
 /// Whether a word is a label: a letter, then letters, digits and `_`, up to 16 bytes.
 pub fn is_label(word: &[u8]) -> bool
-    ensures { result ≡ spec.is_label word.now }
+    ensures { result ≡ model.is_label word.now }
 {
     match word.split_first() {
         None => false,

@@ -1,12 +1,15 @@
 -- The levels that marks cut from records, as records and marks come and go at the end.
-use Rattle.std.proofs.Common.{◌≡◌, ◌≢◌, ℕ, suc, ◌+◌, ◌-◌, ◌<◌, ◌≤◌, true, List, [], ◌∷◌, ◌++◌, length, reverse, take, drop, Option, None, Some, refl, arith, sym, ◌∙◌, ap, subst}
+use Rattle.std.proofs.Common.{◌≡◌, ◌≢◌, ℕ, suc, ◌+◌, ◌-◌, ◌<◌, ◌≤◌, true, List, [], ◌∷◌, ◌++◌}
+use Rattle.std.proofs.Common.{length, reverse, take, drop, Option, None, Some, refl, arith, sym}
+use Rattle.std.proofs.Common.{◌∙◌, ap, subst}
 use Rattle.std.specs.Prelude.{min, nat_le, is_some, IsSome, ◌↔◌}
 use Rattle.std.specs.Option.{option_to_list}
 use Rattle.std.proofs.lemmas.Bool.{and_parts, and_from}
 use Rattle.std.proofs.lemmas.Bool.Decides.{nat_tests}
 use Rattle.std.proofs.lemmas.List.{reverse-append, length-reverse, length-append, length-take, length-drop, drop-drop}
 use Rattle.std.proofs.Math.Seq.{take-add}
-use Rattle.undo_calls.specs.UndoLevels.{recorded, merged, innermost, newest, without_newest, cut, are_marks, levels_of, IsStack}
+use Rattle.undo_calls.specs.UndoLevels.{recorded, merged, innermost, newest, without_newest, cut}
+use Rattle.undo_calls.specs.UndoLevels.{are_marks, levels_of, IsStack}
 
 -- ---- what marks say
 
@@ -39,7 +42,8 @@ length-cut (m ∷ ms) rs = ap suc (length-cut ms (drop (length rs - m) rs))
 suc-minus : (n m : ℕ) → m ≤ n → suc n - m ≡ suc (n - m)
 suc-minus n m h = omega arith
 
-cut-recorded : {A : Type 0} (ms : List ℕ) (rs : List A) (i : A) → are_marks ms (length rs) ≡ true → cut ms (i ∷ rs) ≡ recorded i (cut ms rs)
+cut-recorded : {A : Type 0} (ms : List ℕ) (rs : List A) (i : A) → are_marks ms (length rs) ≡ true →
+    cut ms (i ∷ rs) ≡ recorded i (cut ms rs)
 cut-recorded [] rs i h = refl
 cut-recorded (m ∷ ms) rs i h =
     ap (λ k. take k (i ∷ rs) ∷ cut ms (drop k (i ∷ rs))) (suc-minus (length rs) m (within m ms (length rs) h))
@@ -53,13 +57,15 @@ length-none k rs e = sym (length-take k rs) ∙ ap length e
 none-minus : (n m : ℕ) → m ≤ n → min (n - m) n ≡ 0 → n ≡ m
 none-minus n m small e = grind (arith, nat_tests)
 
-cut-empty : {A : Type 0} (m : ℕ) (ms : List ℕ) (rs : List A) → are_marks (m ∷ ms) (length rs) ≡ true → take (length rs - m) rs ≡ [] → length rs ≡ m
+cut-empty : {A : Type 0} (m : ℕ) (ms : List ℕ) (rs : List A) →
+    are_marks (m ∷ ms) (length rs) ≡ true → take (length rs - m) rs ≡ [] → length rs ≡ m
 cut-empty m ms rs h e = none-minus (length rs) m (within m ms (length rs) h) (length-none (length rs - m) rs e)
 
 minus-minus : (n m l : ℕ) → l ≤ m → m ≤ n → (n - m) + ((n - (n - m)) - l) ≡ n - l
 minus-minus n m l a b = omega arith
 
-cut-merged : {A : Type 0} (m : ℕ) (ms : List ℕ) (rs : List A) → 0 < length ms → are_marks (m ∷ ms) (length rs) ≡ true → cut ms rs ≡ merged (cut (m ∷ ms) rs)
+cut-merged : {A : Type 0} (m : ℕ) (ms : List ℕ) (rs : List A) → 0 < length ms →
+    are_marks (m ∷ ms) (length rs) ≡ true → cut ms rs ≡ merged (cut (m ∷ ms) rs)
 cut-merged m [] rs some h = absurd (let never : ⊥ = omega arith in never)
 cut-merged m (l ∷ ms) rs some h =
     let n = length rs in
@@ -83,55 +89,69 @@ reverse-more_records : {A : Type 0} (records : List A) (i : A) → reverse (reco
 reverse-more_records records i = reverse-append records (i ∷ [])
 
 length-more : {A : Type 0} (records : List A) (i : A) → length (records ++ i ∷ []) ≡ suc (length records)
-length-more records i = length-append records (i ∷ []) ∙ (let e : length records + 1 ≡ suc (length records) = omega arith in e)
+length-more records i =
+    length-append records (i ∷ [])
+    ∙ (let e : length records + 1 ≡ suc (length records) = omega arith in e)
 
 length-marks : (marks : List ℕ) (m : ℕ) → length (marks ++ m ∷ []) ≡ suc (length marks)
 length-marks marks m = length-append marks (m ∷ []) ∙ (let e : length marks + 1 ≡ suc (length marks) = omega arith in e)
 
 -- the marks of a stack, as its records newest first have them
-in_order-newest : {A : Type 0} (marks : List ℕ) (records : List A) → IsStack marks records → are_marks (reverse marks) (length (reverse records)) ≡ true
-in_order-newest marks records h = subst (λ n. are_marks (reverse marks) n ≡ true) (sym (length-reverse records)) h.in_order
+in_order-newest : {A : Type 0} (marks : List ℕ) (records : List A) → IsStack marks records →
+    are_marks (reverse marks) (length (reverse records)) ≡ true
+in_order-newest marks records h =
+    subst (λ n. are_marks (reverse marks) n ≡ true) (sym (length-reverse records)) h.in_order
 
 -- the same where the last mark is seen
-in_order-last : (marks : List ℕ) (m : ℕ) (n : ℕ) → are_marks (reverse (marks ++ m ∷ [])) n ≡ true → are_marks (m ∷ reverse marks) n ≡ true
+in_order-last : (marks : List ℕ) (m : ℕ) (n : ℕ) → are_marks (reverse (marks ++ m ∷ [])) n ≡ true →
+    are_marks (m ∷ reverse marks) n ≡ true
 in_order-last marks m n h = subst (λ ms. are_marks ms n ≡ true) (reverse-more marks m) h
 
 pub length-levels : {A : Type 0} (marks : List ℕ) (records : List A) → length (levels_of marks records) ≡ length marks
 length-levels marks records = length-cut (reverse marks) (reverse records) ∙ length-reverse marks
 
-pub levels-more : {A : Type 0} (marks : List ℕ) (records : List A) (i : A) → IsStack marks records → levels_of marks (records ++ i ∷ []) ≡ recorded i (levels_of marks records)
+pub levels-more : {A : Type 0} (marks : List ℕ) (records : List A) (i : A) → IsStack marks records →
+    levels_of marks (records ++ i ∷ []) ≡ recorded i (levels_of marks records)
 levels-more marks records i h =
     ap (cut (reverse marks)) (reverse-more_records records i)
     ∙ cut-recorded (reverse marks) (reverse records) i (in_order-newest marks records h)
 
-pub stack-more : {A : Type 0} (marks : List ℕ) (records : List A) (i : A) → IsStack marks records → 0 < length marks → length records < 64 → IsStack marks (records ++ i ∷ [])
+pub stack-more : {A : Type 0} (marks : List ℕ) (records : List A) (i : A) → IsStack marks records →
+    0 < length marks → length records < 64 → IsStack marks (records ++ i ∷ [])
 stack-more marks records i h some room =
     let len = length-more records i in
     let back = length-reverse marks in
     record {
-      in_order = marks_further (reverse marks) (length records) (length (records ++ i ∷ [])) (omega arith) (omega arith) h.in_order;
+      in_order =
+          marks_further (reverse marks) (length records) (length (records ++ i ∷ [])) (omega arith)
+          (omega arith) h.in_order;
       few_levels = h.few_levels;
       few = omega arith;
     }
 
-pub levels-begun : {A : Type 0} (marks : List ℕ) (records : List A) (n : ℕ) → length records ≡ n → levels_of (marks ++ n ∷ []) records ≡ [] ∷ levels_of marks records
+pub levels-begun : {A : Type 0} (marks : List ℕ) (records : List A) (n : ℕ) → length records ≡ n →
+    levels_of (marks ++ n ∷ []) records ≡ [] ∷ levels_of marks records
 levels-begun marks records n e =
     ap (λ ms. cut ms (reverse records)) (reverse-more marks n)
     ∙ cut-begun n (reverse marks) (reverse records) (length-reverse records ∙ e)
 
-pub stack-begun : {A : Type 0} (marks : List ℕ) (records : List A) (n : ℕ) → length records ≡ n → IsStack marks records → length marks < 4 → IsStack (marks ++ n ∷ []) records
+pub stack-begun : {A : Type 0} (marks : List ℕ) (records : List A) (n : ℕ) → length records ≡ n →
+    IsStack marks records → length marks < 4 → IsStack (marks ++ n ∷ []) records
 stack-begun marks records n e h room =
     let len = length-marks marks n in
     record {
       in_order =
           subst (λ ms. are_marks ms (length records) ≡ true) (sym (reverse-more marks n))
-          (marked n (reverse marks) (length records) (omega arith) (subst (λ k. are_marks (reverse marks) k ≡ true) e h.in_order));
+          (marked n (reverse marks) (length records) (omega arith)
+          (subst (λ k. are_marks (reverse marks) k ≡ true) e h.in_order));
       few_levels = omega arith;
       few = h.few;
     }
 
 -- the last record goes where it isn't older than the last mark
-pub stack-popped : {A : Type 0} (marks : List ℕ) (m : ℕ) (records : List A) (i : A) → IsStack (marks ++ m ∷ []) (records ++ i ∷ []) → length (records ++ i ∷ []) ≢ m → IsStack (marks ++ m ∷ []) records
+pub stack-popped : {A : Type 0} (marks : List ℕ) (m : ℕ) (records : List A) (i : A) →
+    IsStack (marks ++ m ∷ []) (records ++ i ∷ []) → length (records ++ i ∷ []) ≢ m →
+    IsStack (marks ++ m ∷ []) records
 stack-popped marks m records i h other =
     let len = length-more records i in
     let last = in_order-last marks m (length (records ++ i ∷ [])) h.in_order in
@@ -139,7 +159,8 @@ stack-popped marks m records i h other =
     record {
       in_order =
           subst (λ ms. are_marks ms (length records) ≡ true) (sym (reverse-more marks m))
-          (marked m (reverse marks) (length records) (omega (arith, other)) (outside m (reverse marks) (length (records ++ i ∷ [])) last));
+          (marked m (reverse marks) (length records)
+          (omega (arith, other)) (outside m (reverse marks) (length (records ++ i ∷ [])) last));
       few_levels = h.few_levels;
       few = let few = h.few in omega arith;
     }
@@ -153,76 +174,98 @@ without-recorded i [] = refl
 without-recorded i (is ∷ log) = refl
 
 -- the innermost level has no record where its mark is at their end
-pub levels-at_mark : {A : Type 0} (marks : List ℕ) (m : ℕ) (records : List A) → length records ≡ m → levels_of (marks ++ m ∷ []) records ≡ [] ∷ levels_of marks records
+pub levels-at_mark : {A : Type 0} (marks : List ℕ) (m : ℕ) (records : List A) → length records ≡ m →
+    levels_of (marks ++ m ∷ []) records ≡ [] ∷ levels_of marks records
 levels-at_mark marks m records e = levels-begun marks records m e
 
 -- and there alone
-pub empty-at_mark : {A : Type 0} (marks : List ℕ) (m : ℕ) (records : List A) → IsStack (marks ++ m ∷ []) records → innermost (levels_of (marks ++ m ∷ []) records) ≡ [] → length records ≡ m
+pub empty-at_mark : {A : Type 0} (marks : List ℕ) (m : ℕ) (records : List A) →
+    IsStack (marks ++ m ∷ []) records → innermost (levels_of (marks ++ m ∷ []) records) ≡ [] →
+    length records ≡ m
 empty-at_mark marks m records h e =
     sym (length-reverse records)
     ∙ cut-empty m (reverse marks) (reverse records)
-    (subst (λ ms. are_marks ms (length (reverse records)) ≡ true) (reverse-more marks m) (in_order-newest (marks ++ m ∷ []) records h))
+    (subst (λ ms. are_marks ms (length (reverse records)) ≡ true) (reverse-more marks m)
+    (in_order-newest (marks ++ m ∷ []) records h))
     (subst (λ ms. innermost (cut ms (reverse records)) ≡ []) (reverse-more marks m) e)
 
-pub stack-ended : {A : Type 0} (marks : List ℕ) (m : ℕ) (records : List A) → IsStack (marks ++ m ∷ []) records → length records ≡ m → IsStack marks records
+pub stack-ended : {A : Type 0} (marks : List ℕ) (m : ℕ) (records : List A) →
+    IsStack (marks ++ m ∷ []) records → length records ≡ m → IsStack marks records
 stack-ended marks m records h e =
     let len = length-marks marks m in
     let few = h.few_levels in
     record {
-      in_order = subst (λ k. are_marks (reverse marks) k ≡ true) (sym e) (outside m (reverse marks) (length records) (in_order-last marks m (length records) h.in_order));
+      in_order =
+          subst (λ k. are_marks (reverse marks) k ≡ true) (sym e) (outside m (reverse marks)
+          (length records) (in_order-last marks m (length records) h.in_order));
       few_levels = omega arith;
       few = h.few;
     }
 
-pub levels-merged : {A : Type 0} (marks : List ℕ) (m : ℕ) (records : List A) → IsStack (marks ++ m ∷ []) records → 0 < length marks → levels_of marks records ≡ merged (levels_of (marks ++ m ∷ []) records)
+pub levels-merged : {A : Type 0} (marks : List ℕ) (m : ℕ) (records : List A) →
+    IsStack (marks ++ m ∷ []) records → 0 < length marks →
+    levels_of marks records ≡ merged (levels_of (marks ++ m ∷ []) records)
 levels-merged marks m records h some =
     cut-merged m (reverse marks) (reverse records) (let back = length-reverse marks in omega arith)
-    (subst (λ ms. are_marks ms (length (reverse records)) ≡ true) (reverse-more marks m) (in_order-newest (marks ++ m ∷ []) records h))
+    (subst (λ ms. are_marks ms (length (reverse records)) ≡ true) (reverse-more marks m)
+    (in_order-newest (marks ++ m ∷ []) records h))
     ∙ ap (λ ms. merged (cut ms (reverse records))) (sym (reverse-more marks m))
 
-pub stack-merged : {A : Type 0} (marks : List ℕ) (m : ℕ) (records : List A) → IsStack (marks ++ m ∷ []) records → 0 < length marks → IsStack marks records
+pub stack-merged : {A : Type 0} (marks : List ℕ) (m : ℕ) (records : List A) →
+    IsStack (marks ++ m ∷ []) records → 0 < length marks → IsStack marks records
 stack-merged marks m records h some =
     let len = length-marks marks m in
     let few = h.few_levels in
     let back = length-reverse marks in
     let last = in_order-last marks m (length records) h.in_order in
     record {
-      in_order = marks_further (reverse marks) m (length records) (omega arith) (within m (reverse marks) (length records) last) (outside m (reverse marks) (length records) last);
+      in_order =
+          marks_further (reverse marks) m (length records) (omega arith) (within m (reverse marks)
+          (length records) last) (outside m (reverse marks) (length records) last);
       few_levels = omega arith;
       few = h.few;
     }
 
 -- ---- the same for what a stack is seen as
 
-pub length-log : {A : Type 0} (marks : List ℕ) (records : List A) (log : List (List A)) → levels_of marks records ≡ log → length log ≡ length marks
+pub length-log : {A : Type 0} (marks : List ℕ) (records : List A) (log : List (List A)) →
+    levels_of marks records ≡ log → length log ≡ length marks
 length-log marks records log e = sym (ap length e) ∙ length-levels marks records
 
 -- what is taken out last
-pub last-of : {X : Type 0} (old new : List X) (r : Option X) → old ≡ new ++ option_to_list r → (IsSome r ↔ (0 < length old)) → 0 < length old → (x : X) × (r ≡ Some x) × (old ≡ new ++ x ∷ [])
+pub last-of : {X : Type 0} (old new : List X) (r : Option X) → old ≡ new ++ option_to_list r →
+    (IsSome r ↔ (0 < length old)) → 0 < length old → (x : X) × (r ≡ Some x) × (old ≡ new ++ x ∷ [])
 last-of old new None e found some = let none = found.1 some in cc
 last-of old new (Some x) e found some = (x, refl, e)
 
-pub ended : {A : Type 0} (old new : List ℕ) (m : ℕ) (records : List A) (log : List (List A)) → old ≡ new ++ m ∷ [] → IsStack old records → levels_of old records ≡ log → innermost log ≡ [] → (log ≡ [] ∷ levels_of new records) × IsStack new records
+pub ended : {A : Type 0} (old new : List ℕ) (m : ℕ) (records : List A) (log : List (List A)) →
+    old ≡ new ++ m ∷ [] → IsStack old records → levels_of old records ≡ log → innermost log ≡ [] →
+    (log ≡ [] ∷ levels_of new records) × IsStack new records
 ended old new m records log e h view none =
     let stack = subst (λ ms. IsStack ms records) e h in
     let seen : levels_of (new ++ m ∷ []) records ≡ log = ap (λ ms. levels_of ms records) (sym e) ∙ view in
     let here = empty-at_mark new m records stack (ap innermost seen ∙ none) in
     (sym seen ∙ levels-at_mark new m records here, stack-ended new m records stack here)
 
-pub committed : {A : Type 0} (old new : List ℕ) (m : ℕ) (records : List A) (log : List (List A)) → old ≡ new ++ m ∷ [] → IsStack old records → levels_of old records ≡ log → 0 < length new → (levels_of new records ≡ merged log) × IsStack new records
+pub committed : {A : Type 0} (old new : List ℕ) (m : ℕ) (records : List A) (log : List (List A)) →
+    old ≡ new ++ m ∷ [] → IsStack old records → levels_of old records ≡ log → 0 < length new →
+    (levels_of new records ≡ merged log) × IsStack new records
 committed old new m records log e h view some =
     let stack = subst (λ ms. IsStack ms records) e h in
     let seen : levels_of (new ++ m ∷ []) records ≡ log = ap (λ ms. levels_of ms records) (sym e) ∙ view in
     (levels-merged new m records stack some ∙ ap merged seen, stack-merged new m records stack some)
 
-pub more-than_mark : {A : Type 0} (marks init : List ℕ) (m : ℕ) (records : List A) → marks ≡ init ++ m ∷ [] → IsStack marks records → length records ≢ m → 0 < length records
+pub more-than_mark : {A : Type 0} (marks init : List ℕ) (m : ℕ) (records : List A) →
+    marks ≡ init ++ m ∷ [] → IsStack marks records → length records ≢ m → 0 < length records
 more-than_mark marks init m records e h other =
     let stack = subst (λ ms. IsStack ms records) e h in
     let inside = within m (reverse init) (length records) (in_order-last init m (length records) stack.in_order) in
     omega (arith, other)
 
 -- the innermost level has no record where its mark is at the end of all
-pub newest-none : {A : Type 0} (marks init : List ℕ) (m : ℕ) (records : List A) (log : List (List A)) → marks ≡ init ++ m ∷ [] → length records ≡ m → levels_of marks records ≡ log → None ≡ newest log
+pub newest-none :
+    {A : Type 0} (marks init : List ℕ) (m : ℕ) (records : List A) (log : List (List A)) →
+    marks ≡ init ++ m ∷ [] → length records ≡ m → levels_of marks records ≡ log → None ≡ newest log
 newest-none marks init m records log e here view =
     ap newest (sym (levels-at_mark init m records here) ∙ ap (λ ms. levels_of ms records) (sym e) ∙ view)
 
@@ -232,7 +275,9 @@ pub record Popped {A : Type 0} (marks : List ℕ) (new : List A) (x : A) (log : 
   pub rest : levels_of marks new ≡ without_newest log
   pub stack : IsStack marks new
 
-popped-seen : {A : Type 0} (init : List ℕ) (m : ℕ) (new : List A) (x : A) (log : List (List A)) → IsStack (init ++ m ∷ []) (new ++ x ∷ []) → length (new ++ x ∷ []) ≢ m → levels_of (init ++ m ∷ []) (new ++ x ∷ []) ≡ log → Popped (init ++ m ∷ []) new x log
+popped-seen : {A : Type 0} (init : List ℕ) (m : ℕ) (new : List A) (x : A) (log : List (List A)) →
+    IsStack (init ++ m ∷ []) (new ++ x ∷ []) → length (new ++ x ∷ []) ≢ m →
+    levels_of (init ++ m ∷ []) (new ++ x ∷ []) ≡ log → Popped (init ++ m ∷ []) new x log
 popped-seen init m new x log h other view =
     let marks = init ++ m ∷ [] in
     let stack = stack-popped init m new x h other in
@@ -245,7 +290,9 @@ popped-seen init m new x log h other view =
       stack = stack;
     }
 
-pub popped : {A : Type 0} (marks init : List ℕ) (m : ℕ) (old new : List A) (x : A) (log : List (List A)) → marks ≡ init ++ m ∷ [] → old ≡ new ++ x ∷ [] → IsStack marks old → length old ≢ m → levels_of marks old ≡ log → Popped marks new x log
+pub popped : {A : Type 0} (marks init : List ℕ) (m : ℕ) (old new : List A) (x : A)
+    (log : List (List A)) → marks ≡ init ++ m ∷ [] → old ≡ new ++ x ∷ [] → IsStack marks old →
+    length old ≢ m → levels_of marks old ≡ log → Popped marks new x log
 popped {A} marks init m old new x log e taken h other view =
     let stack = subst (λ ms. IsStack ms (new ++ x ∷ [])) e (subst (λ rs. IsStack marks rs) taken h) in
     let seen = ap (λ ms. levels_of ms (new ++ x ∷ [])) (sym e) ∙ ap (λ rs. levels_of marks rs) (sym taken) ∙ view in
@@ -272,7 +319,8 @@ record MarkBefore {A : Type 0} (marks : List ℕ) (records : List A) : Type 0 wh
   last : marks ≡ init ++ m ∷ []
   other : length records ≢ m
 
-mark-before : {A : Type 0} (marks : List ℕ) (records : List A) (log : List (List A)) → levels_of marks records ≡ log → is_some (newest log) ≡ true → MarkBefore marks records
+mark-before : {A : Type 0} (marks : List ℕ) (records : List A) (log : List (List A)) →
+    levels_of marks records ≡ log → is_some (newest log) ≡ true → MarkBefore marks records
 mark-before marks records log view some =
     let size = length-log marks records log view in
     let level = level-of_newest log some in
@@ -285,12 +333,16 @@ mark-before marks records log view some =
     }
 
 -- the innermost level's newest record is the last one of all
-pub some-record : {A : Type 0} (marks : List ℕ) (records : List A) (log : List (List A)) → IsStack marks records → levels_of marks records ≡ log → is_some (newest log) ≡ true → 0 < length records
+pub some-record : {A : Type 0} (marks : List ℕ) (records : List A) (log : List (List A)) →
+    IsStack marks records → levels_of marks records ≡ log → is_some (newest log) ≡ true →
+    0 < length records
 some-record marks records log h view some =
     let mark = mark-before marks records log view some in
     more-than_mark marks mark.init mark.m records mark.last h mark.other
 
-pub forgotten : {A : Type 0} (marks : List ℕ) (old new : List A) (x : A) (log : List (List A)) → old ≡ new ++ x ∷ [] → IsStack marks old → levels_of marks old ≡ log → is_some (newest log) ≡ true → Popped marks new x log
+pub forgotten : {A : Type 0} (marks : List ℕ) (old new : List A) (x : A) (log : List (List A)) →
+    old ≡ new ++ x ∷ [] → IsStack marks old → levels_of marks old ≡ log →
+    is_some (newest log) ≡ true → Popped marks new x log
 forgotten marks old new x log taken h view some =
     let mark = mark-before marks old log view some in
     popped marks mark.init mark.m old new x log mark.last taken h mark.other view

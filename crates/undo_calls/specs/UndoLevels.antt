@@ -6,7 +6,7 @@ use Rattle.kernel_model.specs.declared.Inverse.{Inverse}
 use Rattle.kernel_model.specs.declared.Inverse.TheVariants.{Segment}
 use Rattle.kernel_model.specs.Access.{Found}
 use Rattle.kernel_model.specs.UndoLog.{numbered_log}
-use Rattle.segments.specs.Tables.{Table, by_place}
+use Rattle.ram_space.specs.Tables.{Table, by_place}
 
 -- ---- the levels: innermost level first, newest record first within a level
 

@@ -9,7 +9,7 @@ ghost use Rattle.undo_calls.specs.UndoLevels.{owner_by, logged_at, bare, is_bare
 
 use arrayvec::ArrayVec;
 use kernel_model::{Inverse, NoMemory};
-use segments::Segments;
+use ram_space::Segments;
 use std::alloc::Global;
 use std::marker::Model;
 
@@ -230,6 +230,3 @@ impl UndoStack {
         owner_at(self.marks.as_slice(), i)
     }
 }
-
-#[cfg(test)]
-mod tests;

@@ -1,5 +1,6 @@
 -- What contracts see of a source and a sink, and what a caller did to one.
-use Rattle.std.specs.Prelude.{◌≡◌, ℕ, ◌≤◌, Bool, true, false, List, Option, Some}
+use Rattle.std.specs.Prelude.{◌≡◌, ℕ, ◌<◌, ◌≤◌, Bool, true, false, List, ◌++◌, length, Option, Some}
+use Rattle.std.specs.Io.KnownBytes.{Appends}
 use Rattle.std.proofs.Common.{arith}
 use Rattle.vino_base.specs.declared.health.Health.{Health}
 use Rattle.vino_base.specs.declared.health.Health.TheVariants.{Sound, Broken, CalledAgain}
@@ -34,6 +35,14 @@ pub record IsUsed (before now : DeviceSeen) (failed : Bool) : Type 0 where
   pub later : before.faults ≤ now.faults
   pub rose : failed ≡ true → Rose before.faults now.faults
   pub stops : before.health ≡ Some Sound → now.health ≡ Some (health_after failed Sound)
+
+-- the sink took a part of these bytes, not whole
+pub record AppendsPart (old new : Option (List ℕ)) (bytes : List ℕ) : Type 0 where
+  pub part : List ℕ
+  pub more : List ℕ
+  pub whole : bytes ≡ part ++ more
+  pub lacks : 0 < length more
+  pub appended : Appends old new part
 
 -- ---- laws
 

@@ -10,3 +10,4 @@ pub mod DemoLemmas
 pub mod EndLemmas
 pub mod ImageLemmas
 pub mod ShortLists
+pub mod OneRunLemmas

@@ -1,8 +1,13 @@
 -- How scripts go on by the text of their lines.
-use Rattle.std.proofs.Common.{◌≡◌, ℕ, suc, Bool, true, false, cond, List, [], ◌∷◌, ◌++◌, Result, Ok, Err, refl, sym, ap, ◌∙◌, subst, append-nil, append_assoc, take}
-use Rattle.kernel_model.specs.Script.{Entry, Blank, Frames, Patience, Grant, Boot, Happens, Loads, Raw, ScriptFault, parsed_line}
-use Rattle.kernel_model.specs.Outcome.{SCRIPT_BYTES, Ending, lines_after, rest_after}
-use Rattle.vino_top.specs.Parsed.{Parsed, first_parsed, parsed_entry, parsed_said, refusal_said, parsed_after, refusal_after, parsed_all, refusal_among, EndsWith, GoesByText, going_status, going_refusal, status_by, refusal_by, text_parsed, text_status, text_refusal}
+use Rattle.std.proofs.Common.{◌≡◌, ℕ, suc, Bool, true, false, cond, List, [], ◌∷◌, ◌++◌, Result}
+use Rattle.std.proofs.Common.{Ok, Err, refl, sym, ap, ◌∙◌, subst, append-nil, append_assoc, take}
+use Rattle.script_model.specs.Script.{Entry, Blank, Frames, Patience, Grant, Boot, Happens, Loads}
+use Rattle.script_model.specs.Script.{Raw, ScriptFault, parsed_line}
+use Rattle.script_model.specs.Outcome.{SCRIPT_BYTES, Ending, lines_after, rest_after}
+use Rattle.vino_top.specs.Parsed.{Parsed, first_parsed, parsed_entry, parsed_said, refusal_said}
+use Rattle.vino_top.specs.Parsed.{parsed_after, refusal_after, parsed_all, refusal_among, EndsWith}
+use Rattle.vino_top.specs.Parsed.{GoesByText, going_status, going_refusal, status_by, refusal_by}
+use Rattle.vino_top.specs.Parsed.{text_parsed, text_status, text_refusal}
 
 -- a test isn't both
 pub no_both : {A : Type 0} → true ≡ false → A
@@ -19,37 +24,31 @@ parsed-append p [] ys = refl
 parsed-append p (x ∷ xs) ys = parsed-append (parsed_after p x) xs ys
 
 -- and the refusal among them
-pub refusal-append : (p : Parsed) (xs ys : List (List ℕ)) → refusal_among p (xs ++ ys) ≡ refusal_among p xs ++ refusal_among (parsed_all p xs) ys
+pub refusal-append : (p : Parsed) (xs ys : List (List ℕ)) →
+    refusal_among p (xs ++ ys) ≡ refusal_among p xs ++ refusal_among (parsed_all p xs) ys
 refusal-append p [] ys = refl
 refusal-append p (x ∷ xs) ys =
     ap (λ (b : List ℕ). refusal_after p x ++ b) (refusal-append (parsed_after p x) xs ys)
-    ∙ sym (append_assoc (refusal_after p x) (refusal_among (parsed_after p x) xs) (refusal_among (parsed_all (parsed_after p x) xs) ys))
+    ∙ sym (append_assoc (refusal_after p x) (refusal_among (parsed_after p x) xs)
+    (refusal_among (parsed_all (parsed_after p x) xs) ys))
 
 -- what was refused stays refused
 pub stays_refused : (p : Parsed) (xs : List (List ℕ)) → p.refused ≡ true → parsed_all p xs ≡ p
 stays_refused p [] h = refl
 stays_refused p (x ∷ xs) h =
-    let same : parsed_after p x ≡ p = ap (λ (b : Bool). cond b p (parsed_said (record p { lines = suc p.lines }) (parsed_line p.booted x))) h in
+    let same : parsed_after p x ≡ p = ap (λ (b : Bool). cond b p
+    (parsed_said (record p { lines = suc p.lines }) (parsed_line p.booted x))) h in
     ap (λ (q : Parsed). parsed_all q xs) same ∙ stays_refused p xs h
 
--- a line that isn't refused has no refusal
-entry_going : (p : Parsed) (e : Entry) → (parsed_entry p e).refused ≡ p.refused
-entry_going p Blank = refl
-entry_going p (Frames n) = refl
-entry_going p (Patience kind n) = refl
-entry_going p (Grant n) = refl
-entry_going p Boot = refl
-entry_going p (Happens e) = refl
-entry_going p (Loads slot bytes) = refl
-entry_going p Raw = refl
-
-said_going : (b : Bool) (p q : Parsed) (n : ℕ) (said : Result Entry ScriptFault) → (cond b p (parsed_said q said)).refused ≡ false → cond b [] (refusal_said n said) ≡ []
+said_going : (b : Bool) (p q : Parsed) (n : ℕ) (said : Result Entry ScriptFault) →
+    (cond b p (parsed_said q said)).refused ≡ false → cond b [] (refusal_said n said) ≡ []
 said_going true p q n said h = refl
 said_going false p q n (Ok e) h = refl
 said_going false p q n (Err fault) h = no_both h
 
 -- whether it is going behind some lines says it was before
-going_before : (p : Parsed) (xs : List (List ℕ)) (b : Bool) → p.refused ≡ b → (parsed_all p xs).refused ≡ false → b ≡ false
+going_before : (p : Parsed) (xs : List (List ℕ)) (b : Bool) → p.refused ≡ b →
+    (parsed_all p xs).refused ≡ false → b ≡ false
 going_before p xs false h g = refl
 going_before p xs true h g = sym h ∙ ap (λ (q : Parsed). q.refused) (sym (stays_refused p xs h)) ∙ g
 
@@ -58,7 +57,8 @@ going_says p [] h = refl
 going_says p (x ∷ xs) h =
     let q = parsed_after p x in
     let going : q.refused ≡ false = going_before q xs q.refused refl h in
-    let first : refusal_after p x ≡ [] = said_going p.refused p (record p { lines = suc p.lines }) (suc p.lines) (parsed_line p.booted x) going in
+    let first : refusal_after p x ≡ [] = said_going p.refused p (record p { lines = suc p.lines })
+    (suc p.lines) (parsed_line p.booted x) going in
     ap (λ (b : List ℕ). b ++ refusal_among q xs) first ∙ going_says q xs h
 
 -- ---- what is written
@@ -77,16 +77,22 @@ ends_joined true xs first ys second p q silent going =
     record { before = p.before; is = rw (none, last, append-nil xs, append-nil first) p.is }
 ends_joined false xs first ys second p q silent going =
     let nothing : first ≡ [] = going refl in
-    record { before = xs ++ q.before; is = rw nothing (ap (λ (b : List ℕ). xs ++ b) q.is ∙ sym (append_assoc xs q.before second)) }
+    record {
+      before = xs ++ q.before;
+      is = rw nothing (ap (λ (b : List ℕ). xs ++ b) q.is ∙ sym (append_assoc xs q.before second));
+    }
 
 -- a script went on by lines, and then by others
-pub goes_more : (p q r : Parsed) (xs ys : List (List ℕ)) (first second : List ℕ) → GoesByText p q xs first → GoesByText q r ys second → GoesByText p r (xs ++ ys) (first ++ second)
+pub goes_more : (p q r : Parsed) (xs ys : List (List ℕ)) (first second : List ℕ) →
+    GoesByText p q xs first → GoesByText q r ys second → GoesByText p r (xs ++ ys) (first ++ second)
 goes_more p q r xs ys first second one two =
-    let ends : EndsWith second (refusal_among (parsed_all p xs) ys) = subst (λ (z : Parsed). EndsWith second (refusal_among z ys)) one.parsed two.ends in
+    let ends : EndsWith second (refusal_among (parsed_all p xs) ys) =
+    subst (λ (z : Parsed). EndsWith second (refusal_among z ys)) one.parsed two.ends in
     record {
       parsed = two.parsed ∙ ap (λ (z : Parsed). parsed_all z ys) one.parsed ∙ sym (parsed-append p xs ys);
       ends = subst (λ (b : List ℕ). EndsWith (first ++ second) b) (sym (refusal-append p xs ys))
-          (ends_joined q.refused first (refusal_among p xs) second (refusal_among (parsed_all p xs) ys) one.ends ends two.silent
+          (ends_joined q.refused first (refusal_among p xs) second
+          (refusal_among (parsed_all p xs) ys) one.ends ends two.silent
           (λ going. going_says p xs (ap (λ (z : Parsed). z.refused) (sym one.parsed) ∙ going)));
       silent = λ h.
           let stays : q.refused ≡ true = ap (λ (z : Parsed). z.refused) (one.parsed ∙ stays_refused p xs h) ∙ h in
@@ -104,32 +110,42 @@ goes_refused p text bytes h none =
       parsed = sym (stays_refused p (text ∷ []) h);
       ends = record {
         before = [];
-        is = none ∙ sym (append-nil _ ∙ ap (λ (b : Bool). cond b [] (refusal_said (suc p.lines) (parsed_line p.booted text))) h);
+        is =
+            none ∙ sym (append-nil _ ∙ ap
+            (λ (b : Bool). cond b [] (refusal_said (suc p.lines) (parsed_line p.booted text))) h);
       };
       silent = λ again. none;
     }
 
 -- a line that says this
-goes_said : (p q : Parsed) (text bytes : List ℕ) (said : Result Entry ScriptFault) → p.refused ≡ false → parsed_line p.booted text ≡ said →
-    q ≡ parsed_said (record p { lines = suc p.lines }) said → EndsWith bytes (refusal_said (suc p.lines) said) → GoesByText p q (text ∷ []) bytes
+goes_said : (p q : Parsed) (text bytes : List ℕ) (said : Result Entry ScriptFault) →
+    p.refused ≡ false → parsed_line p.booted text ≡ said →
+    q ≡ parsed_said (record p { lines = suc p.lines }) said →
+    EndsWith bytes (refusal_said (suc p.lines) said) → GoesByText p q (text ∷ []) bytes
 goes_said p q text bytes said going is state ends =
     let u = record p { lines = suc p.lines } in
     record {
-      parsed = state ∙ sym (ap (λ (b : Bool). cond b p (parsed_said u (parsed_line p.booted text))) going ∙ ap (parsed_said u) is);
+      parsed =
+          state ∙ sym (ap (λ (b : Bool). cond b p (parsed_said u (parsed_line p.booted text))) going
+          ∙ ap (parsed_said u) is);
       ends = subst (λ (b : List ℕ). EndsWith bytes b)
-          (sym (append-nil _ ∙ ap (λ (b : Bool). cond b [] (refusal_said (suc p.lines) (parsed_line p.booted text))) going ∙ ap (refusal_said (suc p.lines)) is)) ends;
+          (sym (append-nil _ ∙ ap (λ (b : Bool). cond b [] (refusal_said (suc p.lines)
+          (parsed_line p.booted text))) going ∙ ap (refusal_said (suc p.lines)) is)) ends;
       silent = λ h. no_both (sym h ∙ going);
     }
 
 -- a line is an entry
-pub goes_entry : (p q : Parsed) (text bytes : List ℕ) (e : Entry) → p.refused ≡ false → parsed_line p.booted text ≡ Ok e →
+pub goes_entry : (p q : Parsed) (text bytes : List ℕ) (e : Entry) → p.refused ≡ false →
+    parsed_line p.booted text ≡ Ok e →
     q ≡ parsed_entry (record p { lines = suc p.lines }) e → GoesByText p q (text ∷ []) bytes
 goes_entry p q text bytes e going is state =
     goes_said p q text bytes (Ok e) going is state (record { before = bytes; is = sym (append-nil bytes) })
 
 -- a line is refused
-pub goes_fault : (p q : Parsed) (text bytes : List ℕ) (fault : ScriptFault) → p.refused ≡ false → parsed_line p.booted text ≡ Err fault →
-    q ≡ record p { lines = suc p.lines; refused = true } → bytes ≡ refusal_said (suc p.lines) (Err fault) → GoesByText p q (text ∷ []) bytes
+pub goes_fault : (p q : Parsed) (text bytes : List ℕ) (fault : ScriptFault) → p.refused ≡ false →
+    parsed_line p.booted text ≡ Err fault →
+    q ≡ record p { lines = suc p.lines; refused = true } →
+    bytes ≡ refusal_said (suc p.lines) (Err fault) → GoesByText p q (text ∷ []) bytes
 goes_fault p q text bytes fault going is state written =
     goes_said p q text bytes (Err fault) going is state (record { before = []; is = written })
 
@@ -143,7 +159,8 @@ pub record EndsAs (p : Parsed) (ending : Ending) (rest : List ℕ) (status : ℕ
   pub silent : p.refused ≡ true → last ≡ []
 
 -- no line was refused
-pub going_ends : (p : Parsed) (ending : Ending) (rest : List ℕ) (status : ℕ) (last : List ℕ) → p.refused ≡ false → status ≡ going_status ending rest →
+pub going_ends : (p : Parsed) (ending : Ending) (rest : List ℕ) (status : ℕ) (last : List ℕ) →
+    p.refused ≡ false → status ≡ going_status ending rest →
     EndsWith last (going_refusal ending p.lines rest) → EndsAs p ending rest status last
 going_ends p ending rest status last going is ends =
     record {
@@ -157,7 +174,9 @@ pub refused_ends : (p : Parsed) (ending : Ending) (rest : List ℕ) → p.refuse
 refused_ends p ending rest refused =
     record {
       status_is = ap (λ (b : Bool). cond b 2 (going_status ending rest)) (sym refused);
-      ends = subst (λ (b : Bool). EndsWith [] (cond b [] (going_refusal ending p.lines rest))) (sym refused) (record { before = []; is = refl });
+      ends =
+          subst (λ (b : Bool). EndsWith [] (cond b [] (going_refusal ending p.lines rest)))
+          (sym refused) (record { before = []; is = refl });
       silent = λ h. refl;
     }
 
@@ -168,16 +187,21 @@ pub record TextEnds (p : Parsed) (taken out : List ℕ) (ending : Ending) (statu
   pub refusal : EndsWith out (text_refusal taken ending)
 
 -- a run from its first line on, and its end
-pub text_ends : (p q : Parsed) (taken rest out last : List ℕ) (ending : Ending) (status : ℕ) → p ≡ first_parsed → rest ≡ rest_after [] (take SCRIPT_BYTES taken) →
-    GoesByText p q (lines_after [] (take SCRIPT_BYTES taken)) out → EndsAs q ending rest status last → TextEnds q taken (out ++ last) ending status
+pub text_ends : (p q : Parsed) (taken rest out last : List ℕ) (ending : Ending) (status : ℕ) →
+    p ≡ first_parsed → rest ≡ rest_after [] (take SCRIPT_BYTES taken) →
+    GoesByText p q (lines_after [] (take SCRIPT_BYTES taken)) out →
+    EndsAs q ending rest status last → TextEnds q taken (out ++ last) ending status
 text_ends p q taken rest out last ending status first behind goes ends =
     let lines = lines_after [] (take SCRIPT_BYTES taken) in
     let tail = rest_after [] (take SCRIPT_BYTES taken) in
     let from = subst (λ (z : Parsed). GoesByText z q lines out) first goes in
-    let so = subst (λ (z : Parsed). EndsAs z ending tail status last) from.parsed (subst (λ (x : List ℕ). EndsAs q ending x status last) behind ends) in
+    let so = subst (λ (z : Parsed). EndsAs z ending tail status last) from.parsed
+    (subst (λ (x : List ℕ). EndsAs q ending x status last) behind ends) in
     record {
       parsed = from.parsed;
       status_is = so.status_is;
-      refusal = ends_joined (text_parsed taken).refused out (refusal_among first_parsed lines) last (refusal_by (text_parsed taken) ending tail) from.ends so.ends so.silent
+      refusal =
+          ends_joined (text_parsed taken).refused out (refusal_among first_parsed lines) last
+          (refusal_by (text_parsed taken) ending tail) from.ends so.ends so.silent
           (λ going. going_says first_parsed lines going);
     }

@@ -1,12 +1,12 @@
 -- How large the numbers of a session grow, and what always holds of its kernel.
 use Rattle.std.specs.Prelude.{◌≡◌, ℕ, ◌+◌, ◌-◌, ◌^◌, ◌<◌, ◌≤◌, true, false, List, [], length}
-use Rattle.kernel_model.specs.AllCalls.{all_calls}
+use Rattle.script_model.specs.AllCalls.{all_calls}
 use Rattle.kernel_core.specs.EventRefines.{IsKernel}
 use Rattle.kernel_core.specs.Standing.{IsBlank}
-use Rattle.kernel_model.specs.Opening.{opening_policy}
-use Rattle.kernel_model.specs.Script.{LINE_BYTES}
-use Rattle.graft_points.specs.Shelf.{IsShelf, pol_of, first_choice}
-use Rattle.graft_points.specs.Views.{PolicyView}
+use Rattle.script_model.specs.Opening.{opening_policy}
+use Rattle.script_model.specs.Script.{LINE_BYTES}
+use Rattle.call_pieces.specs.Shelf.{IsShelf, pol_of, first_choice}
+use Rattle.call_pieces.specs.Views.{PolicyView}
 use Rattle.vino_top.specs.declared.run.ScriptRun.{ScriptRun}
 use Rattle.vino_top.specs.declared.session.Buffers.{Buffers}
 use Rattle.vino_top.specs.Run.{LeavesText, left_in}

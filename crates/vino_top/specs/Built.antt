@@ -1,5 +1,5 @@
 -- What of the product is built: all that is defined.
-use Rattle.kernel_model.specs.Session.{Build, whole}
+use Rattle.script_model.specs.Session.{Build, whole}
 
 -- what is built
 abbrev pub present_build : Build

@@ -1,10 +1,10 @@
 -- Lines run one after another, and what `demo` makes of the script that it generates.
 use Rattle.std.specs.Prelude.{◌≡◌, ℕ, ◌+◌, ◌*◌, ◌≤◌, Bool, List, [], ◌∷◌, ◌++◌, length}
-use Rattle.disk_log.specs.Calls.{Knows}
+use Rattle.call_pieces.specs.Calls.{Knows}
 use Rattle.vino_base.specs.Disks.{DiskSeen}
-use Rattle.kernel_model.specs.World.{Blocks}
-use Rattle.kernel_model.specs.Session.{Session, Written, after_lines}
-use Rattle.kernel_model.specs.Demo.{demo_keys, demo_lines, summary}
+use Rattle.kernel_data.specs.World.{Blocks}
+use Rattle.script_model.specs.Session.{Session, Written, after_lines}
+use Rattle.script_model.specs.Demo.{demo_keys, demo_lines, summary}
 use Rattle.demo_text.specs.declared.tally.Tally.{Tally}
 use Rattle.demo_text.specs.Tallies.{IsTally}
 use Rattle.vino_top.specs.Built.{present_build}

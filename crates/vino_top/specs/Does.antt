@@ -1,14 +1,15 @@
 -- What a call of `vino` does, by what the words of the command line ask.
 use Rattle.std.specs.Prelude.{◌≡◌, ◌≢◌, ◌==◌, ℕ, ◌⊎◌}
 use Rattle.std.specs.Io.KnownBytes.{Appends, Keeps}
-use Rattle.vino_base.specs.Streams.{SinkSeen, IsUsed}
+use Rattle.vino_base.specs.Streams.{SinkSeen, IsUsed, AppendsPart}
 use Rattle.vino_base.specs.Disks.{DiskSeen}
-use Rattle.kernel_model.specs.Text.{line, usage_text}
-use Rattle.kernel_model.specs.Filters.{Filter}
-use Rattle.kernel_model.specs.Filters as filter
-use Rattle.filters.specs.Filtered.{AppendsPart, Filtered}
-use Rattle.command_line.specs.declared.Asked.{Asked}
-use Rattle.command_line.specs.declared.Asked.TheVariants.{Run, Box, Check, Reseal, Asm, Dis, Lang, Demo, Nothing}
+use Rattle.script_model.specs.Text.{line, usage_text}
+use Rattle.script_model.specs.Filters.{Filter}
+use Rattle.script_model.specs.Filters as filter
+use Rattle.commands.specs.Filtered.{Filtered}
+use Rattle.commands.specs.declared.command_line.Asked.{Asked}
+use Rattle.commands.specs.declared.command_line.Asked.TheVariants.{Run, Box, Check, Reseal, Asm}
+use Rattle.commands.specs.declared.command_line.Asked.TheVariants.{Dis, Lang, Demo, Nothing}
 use Rattle.vino_top.specs.Run.{Place, place, Devices, Ran, Broke, Lacked}
 use Rattle.vino_top.specs.Demos.{DemoRan, DemoLacked}
 

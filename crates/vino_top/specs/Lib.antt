@@ -7,3 +7,4 @@ pub mod Run
 pub mod Demos
 pub mod Does
 pub mod Held
+pub mod OneRun

@@ -1,10 +1,10 @@
 -- What the text of its lines alone makes of a run: which line is refused, and how the run ends.
 -- Neither keys nor blocks nor calls of the disk come into it.
 use Rattle.std.specs.Prelude.{◌≡◌, ℕ, suc, Bool, true, false, cond, List, [], ◌∷◌, ◌++◌, take, is_some, Result, Ok, Err}
-use Rattle.kernel_model.specs.Script.{Entry, Boot, ScriptFault, Unfinished, parsed_line}
-use Rattle.kernel_model.specs.Session.{Session, fault_text}
-use Rattle.kernel_model.specs.Text.{line}
-use Rattle.kernel_model.specs.Outcome.{SCRIPT_BYTES, Ending, End, Fault, Over, lines_after, rest_after}
+use Rattle.script_model.specs.Script.{Entry, Boot, ScriptFault, Unfinished, parsed_line}
+use Rattle.script_model.specs.Session.{Session, fault_text}
+use Rattle.script_model.specs.Text.{line}
+use Rattle.script_model.specs.Outcome.{SCRIPT_BYTES, Ending, End, Fault, Over, lines_after, rest_after}
 
 -- ---- lines
 

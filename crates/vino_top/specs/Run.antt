@@ -4,20 +4,20 @@ use Rattle.std.specs.Prelude.{true, false, List, [], ◌∷◌, ◌++◌, length
 use Rattle.std.specs.Prelude.{Some, None, is_some, Result, Ok, Err, codes}
 use Rattle.std.specs.List.{concat}
 use Rattle.std.specs.Io.KnownBytes.{Appends, Consumes, IsAtEnd}
-use Rattle.vino_base.specs.Streams.{SourceSeen, SinkSeen, IsUsed}
-use Rattle.filters.specs.Filtered.{AppendsPart, HasEnded}
-use Rattle.disk_log.specs.Calls.{Knows, Made, failures}
+use Rattle.vino_base.specs.Streams.{SourceSeen, SinkSeen, IsUsed, AppendsPart}
+use Rattle.commands.specs.Filtered.{HasEnded}
+use Rattle.call_pieces.specs.Calls.{Knows, Made, failures}
 use Rattle.vino_base.specs.Disks.{DiskSeen}
-use Rattle.kernel_model.specs.declared.Keys.{Keys}
-use Rattle.kernel_model.specs.declared.FileRow.{FileRow}
-use Rattle.kernel_model.specs.declared.Note.{Note}
-use Rattle.kernel_model.specs.World.{Blocks}
-use Rattle.kernel_model.specs.Session.{Session, Written, first_session, after_line, after_entry}
-use Rattle.kernel_model.specs.Session.{session_after, pieces_of, first_io, later_io}
-use Rattle.kernel_model.specs.Kernel.{Kernel}
-use Rattle.kernel_model.specs.Script.{Entry, Boot, Happens, Loads, parsed_line}
-use Rattle.kernel_model.specs.Outcome.{SCRIPT_BYTES, Ending, End, Outcome, outcome, written, lines_after, rest_after}
-use Rattle.kernel_model.specs.Text.{boot_text, line, note_lines}
+use Rattle.script_model.specs.declared.Keys.{Keys}
+use Rattle.kernel_data.specs.declared.FileRow.{FileRow}
+use Rattle.kernel_data.specs.declared.Note.{Note}
+use Rattle.kernel_data.specs.World.{Blocks}
+use Rattle.script_model.specs.Session.{Session, Written, first_session, after_line, after_entry}
+use Rattle.script_model.specs.Session.{session_after, pieces_of, first_io, later_io}
+use Rattle.script_model.specs.Kernel.{Kernel}
+use Rattle.script_model.specs.Script.{Entry, Boot, Happens, Loads, parsed_line}
+use Rattle.script_model.specs.Outcome.{SCRIPT_BYTES, Ending, End, Outcome, outcome, written, lines_after, rest_after}
+use Rattle.script_model.specs.Text.{boot_text, line, note_lines}
 use Rattle.kernel_steps.specs.Faults.{fault_notes}
 use Rattle.kernel_core.specs.Standing.{boot_note_of}
 use Rattle.kernel_core.specs.declared.kernel.BootNote.{BootNote}
@@ -377,18 +377,18 @@ pub record Reached (c : Place) (s t : Seen) (rest rest_new got got_new : Option 
   pub fed : Feeds c s t [] line (take SCRIPT_BYTES taken) got got_new d e
 
 -- where a run stands: its session, the line that is being read, its sink and its disk
-pub record Moment : Type 0 where
+pub record RunMoment : Type 0 where
   pub session : Seen
   pub line : List ℕ
   pub sink : SinkSeen
   pub disk : DiskSeen
 
 -- the moment of this run, with this sink and this disk
-abbrev pub moment : {B : Type 0} {P : _} → ScriptRun B P → SinkSeen → DiskSeen → Moment
-moment r k d = record { session = seen_of r.session; line = r.line; sink = k; disk = d }
+abbrev pub run_moment : {B : Type 0} {P : _} → ScriptRun B P → SinkSeen → DiskSeen → RunMoment
+run_moment r k d = record { session = seen_of r.session; line = r.line; sink = k; disk = d }
 
 -- These bytes were fed, or the run stopped among their lines. The sink is blamed where it failed.
-pub record FeedsOrStops {T : Type 0} (c : Place) (bytes : List ℕ) (x y : Moment)
+pub record FeedsOrStops {T : Type 0} (c : Place) (bytes : List ℕ) (x y : RunMoment)
     (answer : Result T Stop) : Type 0 where
   pub contents : MatchResult answer
       (λ _. Feeds c x.session y.session x.line y.line bytes x.sink.got y.sink.got x.disk y.disk)
@@ -398,7 +398,7 @@ pub record FeedsOrStops {T : Type 0} (c : Place) (bytes : List ℕ) (x y : Momen
 
 -- The line that ended was this one. It was run, the sink took what it writes, and the next line is
 -- to come; or the run stopped at it. The sink is blamed where it failed.
-pub record TakesOrStops {T : Type 0} (c : Place) (text : List ℕ) (x y : Moment)
+pub record TakesOrStops {T : Type 0} (c : Place) (text : List ℕ) (x y : RunMoment)
     (answer : Result T Stop) : Type 0 where
   pub line : OnOk answer (y.line ≡ [])
   pub contents : MatchResult answer

@@ -1,17 +1,17 @@
 -- Which abstract sessions a session of the code stands for.
 use Rattle.std.specs.Prelude.{◌≡◌, ℕ, suc, Bool, true, false, cond, List, [], ◌∷◌, Option, Some}
 use Rattle.std.specs.Prelude.{None, slice_index_or, flat_map}
-use Rattle.disk_log.specs.Calls.{Knows}
-use Rattle.kernel_model.specs.World.{processes}
-use Rattle.kernel_model.specs.AllCalls.{all_calls}
-use Rattle.kernel_model.specs.Kernel as abstract
-use Rattle.kernel_model.specs.Script.{Unfinished}
-use Rattle.kernel_model.specs.Session as script
-use Rattle.kernel_model.specs.Sound.{IsAtRest}
-use Rattle.kernel_model.specs.Text.{line, left_text}
+use Rattle.call_pieces.specs.Calls.{Knows}
+use Rattle.kernel_data.specs.World.{processes}
+use Rattle.script_model.specs.AllCalls.{all_calls}
+use Rattle.script_model.specs.Kernel as abstract
+use Rattle.script_model.specs.Script.{Unfinished}
+use Rattle.script_model.specs.Session as script
+use Rattle.script_model.specs.Sound.{IsAtRest}
+use Rattle.script_model.specs.Text.{line, left_text}
 use Rattle.script_text.specs.declared.parse.ScriptFault.{ScriptFault}
 use Rattle.script_text.specs.declared.parse.ScriptFault.TheVariants.{BadWord, BadNumber, WrongPlace, UnknownCommand}
-use Rattle.kernel_state.specs.declared.Setup.{Setup}
+use Rattle.call_pieces.specs.declared.Setup.{Setup}
 use Rattle.placed_laws.specs.Placed.{Placed, PlacedCall}
 use Rattle.placed_laws.specs.Stands as kernels
 use Rattle.running_kernel.specs.Views.{placed_of}

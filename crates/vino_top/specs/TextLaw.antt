@@ -1,10 +1,10 @@
 -- Over the definitions, too, the text of its lines alone says which line is refused, and how a run
 -- ends.
 use Rattle.std.specs.Prelude.{◌≡◌, ℕ, Bool, List, [], take}
-use Rattle.kernel_model.specs.declared.Keys.{Keys}
-use Rattle.kernel_model.specs.Directory.{Disk}
-use Rattle.kernel_model.specs.Outcome.{SCRIPT_BYTES, Ending, outcome, written, lines_after}
-use Rattle.kernel_model.specs.Session.{Build, first_session, session_after}
+use Rattle.script_model.specs.declared.Keys.{Keys}
+use Rattle.kernel_data.specs.Directory.{Disk}
+use Rattle.script_model.specs.Outcome.{SCRIPT_BYTES, Ending, outcome, written, lines_after}
+use Rattle.script_model.specs.Session.{Build, first_session, session_after}
 use Rattle.vino_top.specs.Parsed.{Parsed, EndsWith, parsed_session, text_parsed, text_status, text_refusal}
 
 -- how far a run of the definitions has come that took these bytes

@@ -2,7 +2,7 @@
 
 ghost use Rattle.std.specs.Prelude.{◌≡◌, ◌==◌, ◌⊎◌, ◌≤◌, ◌<◌, ◌+◌, ◌-◌, ◌^◌, ◌++◌, ℕ, [], length};
 ghost use Rattle.std.specs.Prelude.{map, OnOk, OnErr, IfOk};
-ghost use Rattle.kernel_model.specs.Demo.{demo_lines, summary_of};
+ghost use Rattle.script_model.specs.Demo.{demo_lines, summary_of};
 ghost use Rattle.demo_text.specs.Tallies.{IsTally};
 ghost use Rattle.vino_top.specs.Bounds.{IsStock, IsSessionWithin};
 ghost use Rattle.vino_top.specs.Standing.{seen_of, IsBegun, last_bytes};
@@ -11,14 +11,13 @@ ghost use Rattle.vino_top.specs.Does.{DemoAnswers};
 ghost use Rattle.vino_top.specs.Demos.{demo_place, HasRoom, DemoTakes, DemoReached, DemoStops};
 
 use crate::session::{Buffers, Session};
+use call_pieces::Policy;
 use demo_text::{DemoLines, Tally};
-use filters::write_all;
 use graft_loader::Keys;
-use graft_points::Policy;
-use kernel_model::NoMemory;
+use kernel_data::NoMemory;
 use line_text::Text;
 use std::alloc::Global;
-use vino_base::{Disk, Sink};
+use vino_base::{Disk, Sink, write_all};
 
 /// The keys of the script's images.
 const KEYS: Keys = Keys {
@@ -36,7 +35,7 @@ struct DemoRun<B: Policy> {
 }
 
 /// Before the first line, with the stock policies.
-fn begin<B: Policy>(alloc: Global, shelf: Vec<B>) -> Result<DemoRun<B>, NoMemory>
+fn new_demo<B: Policy>(alloc: Global, shelf: Vec<B>) -> Result<DemoRun<B>, NoMemory>
     requires { IsStock (map B.seen shelf.items) }
     ensures within { IfOk result (λ r. (size : ℕ) → IsSessionWithin size r.session) }
     ensures begun { IfOk result (λ r. IsBegun (seen_of r.session)) }
@@ -160,7 +159,7 @@ pub fn demo<B: Policy, K: Sink, D: Disk>(
     let Ok(lines) = DemoLines::new(alloc, n) else {
         return 5;
     };
-    match begin(alloc, shelf) {
+    match new_demo(alloc, shelf) {
         Err(_) => 5,
         Ok(run) => run_demo(alloc, n, run, lines, sink, disk),
     }

@@ -6,19 +6,19 @@
 
 ghost use Rattle.std.specs.Prelude.{◌≡◌, ◌==◌, ◌⊎◌, true, false, List, [], ℕ, String, Vec, map, string_bytes};
 ghost use Rattle.std.specs.Io.KnownBytes.{Appends};
-ghost use Rattle.vino_base.specs.Streams.{IsUsed};
-ghost use Rattle.kernel_model.specs.Text.{line, usage_text};
-ghost use Rattle.kernel_model.specs.Opening.{opening_policy};
-ghost use Rattle.graft_points.specs.Shelf.{IsShelf, pol_of, first_choice};
+ghost use Rattle.vino_base.specs.Streams.{AppendsPart, IsUsed};
+ghost use Rattle.script_model.specs.Text.{line, usage_text};
+ghost use Rattle.script_model.specs.Opening.{opening_policy};
+ghost use Rattle.call_pieces.specs.Shelf.{IsShelf, pol_of, first_choice};
 ghost use Rattle.vino_top.specs.Standing.{seen_of, IsBegun};
 ghost use Rattle.vino_top.specs.Bounds.{IsStock, IsSessionWithin};
-ghost use Rattle.command_line.specs.Words.{asked_by};
+ghost use Rattle.commands.specs.Words.{asked_by};
 ghost use Rattle.vino_top.specs.TextLaw.{TextDecides};
-ghost use Rattle.filters.specs.Filtered.{AppendsPart};
 ghost use Rattle.vino_top.specs.Run.{place, devices};
 ghost use Rattle.vino_top.specs.Does.{Does, RunAnswers};
 
 mod demo;
+pub mod laws;
 mod lines;
 mod loading;
 mod rows;
@@ -28,17 +28,14 @@ mod session;
 pub use crate::lines::Lines;
 use crate::run::Loading;
 pub use crate::session::{Buffers, Session};
-use call_pieces::Plain;
-use call_tables::Beside;
-use command_line::{Asked, read_words};
+use call_pieces::{Beside, Plain, Policy};
+use commands::{Asked, read_words};
 pub use demo_text::demo_script;
 use event_points::EventPoints;
-use filters::write_all;
 use graft_loader::Keys;
-use graft_points::Policy;
 use std::alloc::Global;
 use stream_points::StreamPoints;
-use vino_base::{Disk, Sink, Source};
+use vino_base::{Disk, Sink, Source, write_all};
 
 /// All calls of the program: those of stream points and of event points, beside all others.
 pub type AllCalls = Beside<StreamPoints, Beside<EventPoints, Plain>>;
@@ -83,12 +80,12 @@ pub fn vino<S: Source, K: Sink, D: Disk>(
 {
     match read_words(words) {
         Asked::Run(keys) => run_script(alloc, &keys, src, out, disk, shelf),
-        Asked::Box(keys, keep) => filters::box_image(alloc, &keys, keep, src, out),
-        Asked::Check(keys) => filters::check_image(alloc, &keys, src, out),
-        Asked::Reseal(keys) => filters::reseal_image(alloc, &keys, src, out),
-        Asked::Asm => filters::asm(alloc, src, out),
-        Asked::Dis => filters::dis(alloc, src, out),
-        Asked::Lang => filters::lang(alloc, src, out),
+        Asked::Box(keys, keep) => commands::box_image(alloc, &keys, keep, src, out),
+        Asked::Check(keys) => commands::check_image(alloc, &keys, src, out),
+        Asked::Reseal(keys) => commands::reseal_image(alloc, &keys, src, out),
+        Asked::Asm => commands::asm(alloc, src, out),
+        Asked::Dis => commands::dis(alloc, src, out),
+        Asked::Lang => commands::lang(alloc, src, out),
         Asked::Demo(n) => demo::demo(alloc, n, out, disk, shelf),
         Asked::Nothing => write_usage(out),
     }
@@ -154,6 +151,6 @@ fn start<B: Policy, S: Source, K: Sink, D: Disk>(
 {
     match run::zeros(loading.alloc, READ_BYTES) {
         Err(_) => 5,
-        Ok(mut buf) => run::run(loading, &mut reader, &mut buf, src, out, disk),
+        Ok(mut buf) => run::run_to_end(loading, &mut reader, &mut buf, src, out, disk),
     }
 }

@@ -1,8 +1,8 @@
 //! The lines that are written of an event.
 
 ghost use Rattle.std.specs.Prelude.{◌≡◌, ◌+◌, ◌*◌, ◌<◌, ◌≤◌, ◌++◌, [], length, vec_capacity, IfOk};
-ghost use Rattle.kernel_model.specs.Bare.{given_count, note_with, notes_with};
-ghost use Rattle.kernel_model.specs.Text.{line, note_lines, note_text, row_lines};
+ghost use Rattle.kernel_data.specs.Bare.{given_count, note_with, notes_with};
+ghost use Rattle.script_model.specs.Text.{line, note_lines, note_text, row_lines};
 ghost use Rattle.placed_laws.specs.PlacedRows.{placed_rows};
 ghost use Rattle.kernel_steps.specs.Noting.{AreGiven};
 ghost use Rattle.running_kernel.specs.Views.{placed_of, IsRunning};
@@ -11,9 +11,9 @@ ghost use Rattle.vino_top.specs.Standing.{placed_left_line, placed_left_lines};
 
 use crate::AllCalls;
 use crate::rows::print_found;
-use graft_points::Policy;
+use call_pieces::Policy;
 use kernel_core::{Kernel, Notes, RowPlace};
-use kernel_model::{BareNote, NoMemory, PROCESSES};
+use kernel_data::{BareNote, NoMemory, PROCESSES};
 use line_text::{Text, append_note, print_left, print_note};
 use std::alloc::Global;
 use std::marker::Model;

@@ -1,13 +1,13 @@
 //! The line of an `image` event.
 
 ghost use Rattle.std.specs.Prelude.{◌≡◌, ◌++◌, ◌∷◌, decimal, is_some, true};
-ghost use Rattle.kernel_model.specs.Text.{line};
+ghost use Rattle.script_model.specs.Text.{line};
 ghost use Rattle.graft_loader.specs.Faults.{refusal_of, fault_text};
 ghost use Rattle.kernel_core.specs.AddedImages.{has_memory, image_said};
 
 use graft_loader::{FaultCode, LoadFault};
 use kernel_core::ImageRefusal;
-use kernel_model::{BareNote, Refusal};
+use kernel_data::{BareNote, Refusal};
 use line_text::{Text, print_loaded, print_note, print_unloaded, print_unloaded_at};
 
 /// The line of event n about bytes that are refused: the code of the fault, and its place.

@@ -1,13 +1,13 @@
 //! The line of a row that was found.
 
 ghost use Rattle.std.specs.Prelude.{◌≡◌, ◌++◌, codes, decimal, IfSome};
-ghost use Rattle.kernel_model.specs.declared.RawRow.{RawRow as Row};
-ghost use Rattle.kernel_model.specs.Text.{line, row_text};
+ghost use Rattle.kernel_data.specs.declared.RawRow.{RawRow};
+ghost use Rattle.script_model.specs.Text.{line, row_text};
 ghost use Rattle.kernel_core.specs.PlacedSections.{row_found, IsRow};
 ghost use Rattle.running_kernel.specs.Views.{placed_of, IsRunning};
 
 use crate::AllCalls;
-use graft_points::Policy;
+use call_pieces::Policy;
 use kernel_core::{FoundRow, Kernel, Section};
 use line_text::{LentRow, Text, print_lent, print_row};
 
@@ -21,7 +21,7 @@ pub fn print_found<B: Policy>(
     requires running { IsRunning kernel.now.running }
     requires found { IsRow (placed_of kernel.now.running) found.now }
     ensures { IfSome (row_found (placed_of kernel.now.running) found.now)
-        (λ (row : Row). text.new ≡ line (decimal n ++ codes " raw " ++ row_text row)) }
+        (λ (row : RawRow). text.new ≡ line (decimal n ++ codes " raw " ++ row_text row)) }
 {
     let store = &kernel.running.store;
     let p = found.place as u8;
@@ -30,7 +30,15 @@ pub fn print_found<B: Policy>(
         Section::Accounts => print_lent(n, &LentRow::Acct(p, &store.amounts(p)), text),
         Section::Cells => print_lent(n, &LentRow::Cells(p, &store.cells(p)), text),
         Section::Policies => {
-            print_lent(n, &LentRow::Pol(p, store.chosen(p), store.param(p)), text)
+            print_lent(
+                n,
+                &LentRow::Pol {
+                    kind: p,
+                    policy: store.chosen(p),
+                    parameter: store.param(p),
+                },
+                text,
+            )
         }
         _ => print_whole(kernel, n, found, text),
     }
@@ -41,7 +49,7 @@ fn print_whole<B: Policy>(kernel: &Kernel<AllCalls, B>, n: u32, found: &FoundRow
     requires running { IsRunning kernel.now.running }
     requires found { IsRow (placed_of kernel.now.running) found.now }
     ensures { IfSome (row_found (placed_of kernel.now.running) found.now)
-        (λ (row : Row). text.new ≡ line (decimal n ++ codes " raw " ++ row_text row)) }
+        (λ (row : RawRow). text.new ≡ line (decimal n ++ codes " raw " ++ row_text row)) }
 {
     if let Some(row) = kernel.row_at(found) {
         print_row(n, &row, text);

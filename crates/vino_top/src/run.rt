@@ -4,24 +4,22 @@ ghost use Rattle.std.specs.Prelude.{◌≡◌, ◌≢◌, ◌==◌, ◌+◌, ◌
 ghost use Rattle.std.specs.Prelude.{◌++◌, length, false, Err, OnOk, IfOk, MatchResult, replicate};
 ghost use Rattle.std.specs.Prelude.{◌⊎◌, drop};
 ghost use Rattle.std.specs.Io.KnownBytes.{Appends, Consumes, IsAtEnd};
-ghost use Rattle.vino_base.specs.Streams.{IsUsed};
-ghost use Rattle.kernel_model.specs.Script.{LINE_BYTES};
-ghost use Rattle.filters.specs.Filtered.{AppendsPart};
+ghost use Rattle.vino_base.specs.Streams.{AppendsPart, IsUsed};
+ghost use Rattle.script_model.specs.Script.{LINE_BYTES};
 ghost use Rattle.vino_top.specs.Bounds.{IsSessionWithin, CanTake};
 ghost use Rattle.vino_top.specs.declared.run.Stop.TheVariants.{SinkFailed};
-ghost use Rattle.vino_top.specs.Run.{Place, place, moment, TakesOrStops, FeedsOrStops, WritesLast};
+ghost use Rattle.vino_top.specs.Run.{Place, place, run_moment, TakesOrStops, FeedsOrStops, WritesLast};
 ghost use Rattle.vino_top.specs.Run.{devices, Ran, Broke, Lacked, stop_status, is_sink_failed};
 ghost use Rattle.vino_top.specs.Standing.{seen_of, IsBegun, last_bytes, last_status};
 ghost use Rattle.vino_base.specs.Disks.{DiskSeen};
 
 use crate::session::{Buffers, Session};
-use filters::write_all;
+use call_pieces::Policy;
 use graft_loader::Keys;
-use graft_points::Policy;
-use kernel_model::NoMemory;
+use kernel_data::NoMemory;
 use script_text::{Fed, LineBuf};
 use std::alloc::Global;
-use vino_base::{Disk, Sink, Source};
+use vino_base::{Disk, Sink, Source, write_all};
 
 /// The most bytes of a script.
 const SCRIPT_BYTES: usize = 16_777_216;
@@ -102,8 +100,8 @@ fn run_whole<B: Policy, K: Sink, D: Disk>(
     requires short { length text.now ≤ LINE_BYTES }
     ensures within { IsSessionWithin (D.seen disk.new).size reader.new.session }
     ensures taken { TakesOrStops (place keys.now (D.seen disk.old).size) text.now
-        (moment reader.old (K.seen out.old) (D.seen disk.old))
-        (moment reader.new (K.seen out.new) (D.seen disk.new)) result }
+        (run_moment reader.old (K.seen out.old) (D.seen disk.old))
+        (run_moment reader.new (K.seen out.new) (D.seen disk.new)) result }
 {
     if let Err(_) = reader
         .session
@@ -125,8 +123,8 @@ fn end_line<B: Policy, K: Sink, D: Disk>(
     requires { CanTake (D.seen disk.old).size 1 reader.old }
     ensures within { IsSessionWithin (D.seen disk.new).size reader.new.session }
     ensures taken { TakesOrStops (place keys.now (D.seen disk.old).size) reader.old.line
-        (moment reader.old (K.seen out.old) (D.seen disk.old))
-        (moment reader.new (K.seen out.new) (D.seen disk.new)) result }
+        (run_moment reader.old (K.seen out.old) (D.seen disk.old))
+        (run_moment reader.new (K.seen out.new) (D.seen disk.new)) result }
 {
     if let Err(_) = reader
         .session
@@ -149,7 +147,7 @@ fn end_long<B: Policy, K: Sink>(
     ensures within { (size : ℕ) → IsSessionWithin size reader.old.session →
         IsSessionWithin size reader.new.session }
     ensures taken { (c : Place) (d : DiskSeen) → TakesOrStops c (reader.old.line ++ byte ∷ [])
-        (moment reader.old (K.seen out.old) d) (moment reader.new (K.seen out.new) d) result }
+        (run_moment reader.old (K.seen out.old) d) (run_moment reader.new (K.seen out.new) d) result }
 {
     reader.session.refuse_long(&mut reader.out);
     reader.line.clear();
@@ -168,8 +166,8 @@ fn take_byte<B: Policy, K: Sink, D: Disk>(
     requires { CanTake (D.seen disk.old).size 1 reader.old }
     ensures within { IsSessionWithin (D.seen disk.new).size reader.new.session }
     ensures fed { FeedsOrStops (place keys.now (D.seen disk.old).size) (byte ∷ [])
-        (moment reader.old (K.seen out.old) (D.seen disk.old))
-        (moment reader.new (K.seen out.new) (D.seen disk.new)) result }
+        (run_moment reader.old (K.seen out.old) (D.seen disk.old))
+        (run_moment reader.new (K.seen out.new) (D.seen disk.new)) result }
 {
     match reader.line.push(byte) {
         Fed::More => Ok(()),
@@ -199,8 +197,8 @@ fn feed<B: Policy, K: Sink, D: Disk>(
     requires { CanTake (D.seen disk.old).size (length bytes.now) reader.old }
     ensures within { IsSessionWithin (D.seen disk.new).size reader.new.session }
     ensures fed { FeedsOrStops (place keys.now (D.seen disk.old).size) bytes.now
-        (moment reader.old (K.seen out.old) (D.seen disk.old))
-        (moment reader.new (K.seen out.new) (D.seen disk.new)) result }
+        (run_moment reader.old (K.seen out.old) (D.seen disk.old))
+        (run_moment reader.new (K.seen out.new) (D.seen disk.new)) result }
 {
     let mut at = 0;
     while at < bytes.len() {
@@ -264,7 +262,7 @@ fn status_of(stop: Stop) -> u8
 
 /// Runs the script that the source gives, to its end or to the first thing that stops it. The
 /// status.
-pub fn run<B: Policy, S: Source, K: Sink, D: Disk>(
+pub fn run_to_end<B: Policy, S: Source, K: Sink, D: Disk>(
     loading: Loading<'_>,
     reader: &mut ScriptRun<B>,
     buf: &mut [u8],

@@ -4,17 +4,18 @@ ghost use Rattle.std.specs.Prelude.{◌≡◌, ℕ, ◌+◌, ◌<◌, ◌≤◌,
 ghost use Rattle.std.specs.Prelude.{length, map, codes, decimal, slice_index_or, None, Ok, Err};
 ghost use Rattle.std.specs.Prelude.{IfOk, OnOk, OnErr};
 ghost use Rattle.vino_base.specs.Disks.{DiskSeen};
-ghost use Rattle.kernel_model.specs.declared.Keys.{Keys};
-ghost use Rattle.kernel_model.specs.Bare.{event_with};
-ghost use Rattle.kernel_model.specs.Objects.{at};
-ghost use Rattle.kernel_model.specs.Text.{line, spaced};
-ghost use Rattle.kernel_model.specs.Script.{Happens, Boot, Loads, Raw, Unfinished};
-ghost use Rattle.kernel_model.specs.Session.{fault_text};
+ghost use Rattle.script_model.specs.declared.Keys.{Keys};
+ghost use Rattle.kernel_data.specs.Bare.{event_with};
+ghost use Rattle.kernel_data.specs.Objects.{at};
+ghost use Rattle.script_model.specs.Text.{line};
+ghost use Rattle.kernel_data.specs.Bytes.{spaced};
+ghost use Rattle.script_model.specs.Script.{Happens, Boot, Loads, Raw, Unfinished};
+ghost use Rattle.script_model.specs.Session.{fault_text};
 ghost use Rattle.script_text.specs.Answers.{entry_seen, SetsWithin};
-ghost use Rattle.kernel_model.specs.Images as images;
-ghost use Rattle.kernel_model.specs.Kernel.{Kernel as Abstract};
-ghost use Rattle.kernel_model.specs.AllCalls.{all_calls};
-ghost use Rattle.kernel_model.specs.Sound.{IsAtRest};
+ghost use Rattle.script_model.specs.Images as images;
+ghost use Rattle.script_model.specs.Kernel.{Kernel as Abstract};
+ghost use Rattle.script_model.specs.AllCalls.{all_calls};
+ghost use Rattle.script_model.specs.Sound.{IsAtRest};
 ghost use Rattle.running_kernel.specs.Views.{placed_of, IsRunning, HasAbstraction};
 ghost use Rattle.placed_laws.specs.Stands as kernels;
 ghost use Rattle.kernel_core.specs.declared.images.ImageRefusal.TheVariants.{Unloaded};
@@ -28,12 +29,11 @@ use crate::AllCalls;
 use crate::lines::Lines;
 use crate::loading::say_image;
 use arrayvec::ArrayVec;
+use call_pieces::{Policy, Ram};
 use graft_loader::{Images, Keys, LoadFault};
-use graft_points::Policy;
 use kernel_core::{BootNote, ImageRefusal, Kernel, Setup, Trace};
-use kernel_model::{BLOCK_BYTES, BareEvent, BareNote, NoMemory, Refusal};
+use kernel_data::{BLOCK_BYTES, BareEvent, BareNote, NoMemory, Refusal};
 use line_text::{Text, print_boot, print_fault, print_note};
-use ram_space::Ram;
 use script_text::{Entry, ImageBytes, ScriptFault, parse_line};
 use std::alloc::Global;
 use vino_base::Disk;
@@ -413,7 +413,11 @@ fn say_boot(note: BootNote, text: &mut Text)
     ensures { text.new ≡ line (boot_line note) }
 {
     match note {
-        BootNote::Up(frames, size, files) => print_boot(frames, size, u32::from(files), text),
+        BootNote::Up {
+            frames,
+            blocks: size,
+            files,
+        } => print_boot(frames, size, u32::from(files), text),
         BootNote::Fault => print_note(&BareNote::Refused(0, Refusal::DiskFault), &[], text),
     }
 }

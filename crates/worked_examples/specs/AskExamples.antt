@@ -1,12 +1,12 @@
 -- Worked examples of asks: grafts that ask other points, how far that goes, and locks that run out.
 use Rattle.std.specs.Prelude.{◌≡◌, ℕ, [], ◌∷◌, Result, codes, refl}
 use Rattle.std.specs.Fmt.{digits}
-use Rattle.kernel_model.specs.declared.Op.TheVariants.{Li, Mov, Add, Addi, Call, Ret}
-use Rattle.kernel_model.specs.World.{Image}
-use Rattle.kernel_model.specs.Objects.{same_object}
-use Rattle.kernel_model.specs.Images.{LoadFault}
-use Rattle.kernel_model.specs.Boxed.{instr}
-use Rattle.kernel_model.specs.Directory.{entries, entry_row, is_usable, sample_directory, sample_block}
+use Rattle.kernel_data.specs.declared.Op.TheVariants.{Li, Mov, Add, Addi, Call, Ret}
+use Rattle.kernel_data.specs.World.{Image}
+use Rattle.kernel_data.specs.Objects.{same_object}
+use Rattle.script_model.specs.Images.{LoadFault}
+use Rattle.script_model.specs.Boxed.{instr}
+use Rattle.kernel_data.specs.Directory.{entries, entry_row, is_usable, sample_directory, sample_block}
 use Rattle.worked_examples.specs.Given.{Lines, ImageLine, image, lines_of, given_run}
 
 -- asks for the reading ahead of this descriptor, and answers what it got

@@ -1,19 +1,19 @@
 -- Runs of scripts for worked examples: an image line may be given by what its bytes load to, so
 -- that no seal is computed.
 use Rattle.std.specs.Prelude.{ℕ, suc, Bool, true, List, [], ◌∷◌, Option, None, Some, Result, Ok, flat_map}
-use Rattle.kernel_model.specs.declared.TheConstants.{LAST_CALLABLE}
-use Rattle.kernel_model.specs.declared.Instr.{Instr}
-use Rattle.kernel_model.specs.declared.Keys.{Keys}
-use Rattle.kernel_model.specs.World.{Image, plain_image}
-use Rattle.kernel_model.specs.Directory.{sample_disk}
-use Rattle.kernel_model.specs.Images.{LoadFault}
-use Rattle.kernel_model.specs.Kernel.{Kernel}
-use Rattle.kernel_model.specs.Session.{Build, whole, Session, Written, silent, first_session}
-use Rattle.kernel_model.specs.Session.{image_line_run, after_line, and_then}
-use Rattle.kernel_model.specs.Outcome.{End, lines_after, outcome_of, written}
-use Rattle.kernel_model.specs.AllCalls.{all_calls}
-use Rattle.kernel_model.specs.Boxed.{boxed_code}
-use Rattle.kernel_model.specs.Text.{line}
+use Rattle.kernel_data.specs.declared.TheConstants.{LAST_CALLABLE}
+use Rattle.kernel_data.specs.declared.Instr.{Instr}
+use Rattle.script_model.specs.declared.Keys.{Keys}
+use Rattle.kernel_data.specs.World.{Image, plain_image}
+use Rattle.kernel_data.specs.Directory.{sample_disk}
+use Rattle.script_model.specs.Images.{LoadFault}
+use Rattle.script_model.specs.Kernel.{Kernel}
+use Rattle.script_model.specs.Session.{Build, whole, Session, Written, silent, first_session}
+use Rattle.script_model.specs.Session.{image_line_run, after_line, and_then}
+use Rattle.script_model.specs.Outcome.{End, lines_after, outcome_of, written}
+use Rattle.script_model.specs.AllCalls.{all_calls}
+use Rattle.script_model.specs.Boxed.{boxed_code}
+use Rattle.script_model.specs.Text.{line}
 
 -- lines as they stand, or an image line by what its bytes load to
 pub data Given : Type 0 where

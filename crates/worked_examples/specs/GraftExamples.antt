@@ -1,19 +1,19 @@
 -- Worked examples of grafts: what a drop puts back, what it leaves, and what nested levels do.
 use Rattle.std.specs.Prelude.{◌≡◌, ℕ, ◌==◌, cond, List, [], ◌∷◌, Option, None, Some, Result, codes, refl}
 use Rattle.std.specs.Fmt.{digits}
-use Rattle.kernel_model.specs.declared.Op.TheVariants.{Li, Mov, Divu, Jmp, Jnz, Call, Trap, Ret}
-use Rattle.kernel_model.specs.World.{World, Image}
-use Rattle.kernel_model.specs.Objects.{Objects, same_object}
-use Rattle.kernel_model.specs.Images.{LoadFault}
-use Rattle.kernel_model.specs.Directory.{entries, entry_row, is_usable, sample_directory, sample_block, sample_disk}
-use Rattle.kernel_model.specs.declared.Cause.TheVariants.{TooDeep}
-use Rattle.kernel_model.specs.Levels.{Config, drop_level}
-use Rattle.kernel_model.specs.Blocking.{config_of}
-use Rattle.kernel_model.specs.Kernel.{Kernel}
-use Rattle.kernel_model.specs.Pieces.{plain}
-use Rattle.kernel_model.specs.InPlace.{Cut, in_place, undone, store_below}
-use Rattle.kernel_model.specs.Session.{whole, first_session}
-use Rattle.kernel_model.specs.Boxed.{instr}
+use Rattle.kernel_data.specs.declared.Op.TheVariants.{Li, Mov, Divu, Jmp, Jnz, Call, Trap, Ret}
+use Rattle.kernel_data.specs.World.{World, Image}
+use Rattle.kernel_data.specs.Objects.{Objects, same_object}
+use Rattle.script_model.specs.Images.{LoadFault}
+use Rattle.kernel_data.specs.Directory.{entries, entry_row, is_usable, sample_directory, sample_block, sample_disk}
+use Rattle.kernel_data.specs.declared.Cause.TheVariants.{TooDeep}
+use Rattle.script_model.specs.Levels.{Config, drop_level}
+use Rattle.script_model.specs.Blocking.{config_of}
+use Rattle.script_model.specs.Kernel.{Kernel}
+use Rattle.script_model.specs.Pieces.{plain_calls}
+use Rattle.script_model.specs.InPlace.{Cut, in_place, undone, store_below}
+use Rattle.script_model.specs.Session.{whole, first_session}
+use Rattle.script_model.specs.Boxed.{instr}
 use Rattle.worked_examples.specs.Given.{Given, Lines, ImageLine, image, no_keys, run_all, given_run, run_of, lines_of}
 
 -- sets cell 0 to 7, then to 9, and divides by zero
@@ -418,8 +418,8 @@ at_level_0 p = cond (p == 0) (Some 0) None
 -- below the cut
 abbrev pub cells_of : Option Kernel → List ℕ
 cells_of None = []
-cells_of (Some k) = cell_in (in_place plain k) ∷ cell_in (undone plain k at_level_0 (0 ∷ []))
-    ∷ cell_in (store_below plain k at_level_0) ∷ []
+cells_of (Some k) = cell_in (in_place plain_calls k) ∷ cell_in (undone plain_calls k at_level_0 (0 ∷ []))
+    ∷ cell_in (store_below plain_calls k at_level_0) ∷ []
 
 -- Two records of one cell are undone newest first: the store in place has 9, and undone, or below
 -- the cut, 3.
@@ -447,7 +447,7 @@ cells_dropped v (Some c) =
 -- the same for process 0's call in a kernel
 abbrev pub cells_dropped_in : Option Kernel → List ℕ
 cells_dropped_in None = []
-cells_dropped_in (Some k) = cells_dropped k.world (config_of plain k 0)
+cells_dropped_in (Some k) = cells_dropped k.world (config_of plain_calls k 0)
 
 -- A drop puts back what its level found, and no more: of 3, then 5 by level 0, then 8 by level 1,
 -- level 1's drop leaves 5.

@@ -2,13 +2,13 @@
 -- and what is put back.
 use Rattle.std.specs.Prelude.{◌≡◌, List, [], ◌∷◌, Result, codes, refl}
 use Rattle.std.specs.Fmt.{digits}
-use Rattle.kernel_model.specs.declared.Instr.{Instr}
-use Rattle.kernel_model.specs.declared.Op.TheVariants.{Li, Addi, Ldb, Stb, Jnz, Call, Trap, Ret}
-use Rattle.kernel_model.specs.World.{Image}
-use Rattle.kernel_model.specs.Objects.{same_object}
-use Rattle.kernel_model.specs.Images.{LoadFault}
-use Rattle.kernel_model.specs.Boxed.{instr, boxed_code}
-use Rattle.kernel_model.specs.Directory.{entries, entry_row, is_usable, sample_directory, sample_block}
+use Rattle.kernel_data.specs.declared.Instr.{Instr}
+use Rattle.kernel_data.specs.declared.Op.TheVariants.{Li, Addi, Ldb, Stb, Jnz, Call, Trap, Ret}
+use Rattle.kernel_data.specs.World.{Image}
+use Rattle.kernel_data.specs.Objects.{same_object}
+use Rattle.script_model.specs.Images.{LoadFault}
+use Rattle.script_model.specs.Boxed.{instr, boxed_code}
+use Rattle.kernel_data.specs.Directory.{entries, entry_row, is_usable, sample_directory, sample_block}
 use Rattle.worked_examples.specs.Given.{Lines, ImageLine, image, keeping_image, boxed_image, lines_of, all_calls_run}
 
 -- adds 1 to the first byte of its segment, and gives that byte

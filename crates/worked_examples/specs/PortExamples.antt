@@ -2,12 +2,12 @@
 -- of them count.
 use Rattle.std.specs.Prelude.{◌≡◌, [], ◌∷◌, Result, codes, refl}
 use Rattle.std.specs.Fmt.{digits}
-use Rattle.kernel_model.specs.declared.Op.TheVariants.{Li, Mov, Addi, Ldb, Stb, Jmp, Call, Ret}
-use Rattle.kernel_model.specs.World.{Image}
-use Rattle.kernel_model.specs.Objects.{same_object}
-use Rattle.kernel_model.specs.Images.{LoadFault}
-use Rattle.kernel_model.specs.Boxed.{instr}
-use Rattle.kernel_model.specs.Directory.{entries, entry_row, is_usable, sample_directory, sample_block}
+use Rattle.kernel_data.specs.declared.Op.TheVariants.{Li, Mov, Addi, Ldb, Stb, Jmp, Call, Ret}
+use Rattle.kernel_data.specs.World.{Image}
+use Rattle.kernel_data.specs.Objects.{same_object}
+use Rattle.script_model.specs.Images.{LoadFault}
+use Rattle.script_model.specs.Boxed.{instr}
+use Rattle.kernel_data.specs.Directory.{entries, entry_row, is_usable, sample_directory, sample_block}
 use Rattle.worked_examples.specs.Given.{Lines, ImageLine, boxed_image, lines_of, all_calls_run}
 
 -- gives the bytes that it was fed

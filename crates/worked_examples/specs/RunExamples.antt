@@ -1,11 +1,11 @@
 -- Worked examples of runs: raw code with masked addresses, its boxed code on the segment alone and
 -- on flat memory do the same.
 use Rattle.std.specs.Prelude.{◌≡◌, ℕ, ◌+◌, ◌-◌, cond, nat_lt, List, [], ◌∷◌, ◌++◌, map, None, Some, Ok, refl}
-use Rattle.kernel_model.specs.declared.Instr.{Instr}
-use Rattle.kernel_model.specs.declared.Op.TheVariants.{Li, Mul, Addi, Ldw, Stw, Ldb, Stb, Jnz, Call, Ret}
-use Rattle.kernel_model.specs.Machine.{Machine}
-use Rattle.kernel_model.specs.Runs.{AtReturn, CodeRun, first_run, raw_run, boxed_run, flat_run}
-use Rattle.kernel_model.specs.Boxed.{instr, rewrite, box_fault, boxed_code}
+use Rattle.kernel_data.specs.declared.Instr.{Instr}
+use Rattle.kernel_data.specs.declared.Op.TheVariants.{Li, Mul, Addi, Ldw, Stw, Ldb, Stb, Jnz, Call, Ret}
+use Rattle.script_model.specs.Machine.{Machine}
+use Rattle.script_model.specs.Runs.{AtReturn, CodeRun, first_run, raw_run, boxed_run, flat_run}
+use Rattle.script_model.specs.Boxed.{instr, rewrite, box_fault, boxed_code}
 
 -- stores, loads, a loop, and a call of `ask_ra`
 abbrev pub raw_code : List Instr

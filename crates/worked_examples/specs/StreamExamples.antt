@@ -2,12 +2,12 @@
 -- puts, and what is given and put where they wait, or are dropped.
 use Rattle.std.specs.Prelude.{◌≡◌, false, true, [], ◌∷◌, Result, codes, refl}
 use Rattle.std.specs.Fmt.{digits}
-use Rattle.kernel_model.specs.declared.Op.TheVariants.{Li, Mov, Xor, Ldb, Stb, Call, Trap, Ret}
-use Rattle.kernel_model.specs.World.{Image}
-use Rattle.kernel_model.specs.Objects.{same_object}
-use Rattle.kernel_model.specs.Images.{LoadFault}
-use Rattle.kernel_model.specs.Boxed.{instr}
-use Rattle.kernel_model.specs.Directory.{entries, entry_row, is_usable, sample_directory, sample_block}
+use Rattle.kernel_data.specs.declared.Op.TheVariants.{Li, Mov, Xor, Ldb, Stb, Call, Trap, Ret}
+use Rattle.kernel_data.specs.World.{Image}
+use Rattle.kernel_data.specs.Objects.{same_object}
+use Rattle.script_model.specs.Images.{LoadFault}
+use Rattle.script_model.specs.Boxed.{instr}
+use Rattle.kernel_data.specs.Directory.{entries, entry_row, is_usable, sample_directory, sample_block}
 use Rattle.worked_examples.specs.Given.{Lines, ImageLine, boxed_image, lines_of, all_calls_run}
 use Rattle.worked_examples.specs.WaitingExamples.{at_once}
 use Rattle.worked_examples.specs.PortExamples.{gives_back}

@@ -1,12 +1,12 @@
 -- Worked examples of waiting, time-outs and failed calls of the disk.
 use Rattle.std.specs.Prelude.{◌≡◌, true, false, [], ◌∷◌, Result, codes, refl}
 use Rattle.std.specs.Fmt.{digits}
-use Rattle.kernel_model.specs.declared.Op.TheVariants.{Li, Mov, Divu, Jmp, Call, Ret}
-use Rattle.kernel_model.specs.World.{Image}
-use Rattle.kernel_model.specs.Objects.{same_object}
-use Rattle.kernel_model.specs.Images.{LoadFault}
-use Rattle.kernel_model.specs.Directory.{entries, entry_row, is_usable, sample_directory, sample_block}
-use Rattle.kernel_model.specs.Boxed.{instr}
+use Rattle.kernel_data.specs.declared.Op.TheVariants.{Li, Mov, Divu, Jmp, Call, Ret}
+use Rattle.kernel_data.specs.World.{Image}
+use Rattle.kernel_data.specs.Objects.{same_object}
+use Rattle.script_model.specs.Images.{LoadFault}
+use Rattle.kernel_data.specs.Directory.{entries, entry_row, is_usable, sample_directory, sample_block}
+use Rattle.script_model.specs.Boxed.{instr}
 use Rattle.worked_examples.specs.Given.{Lines, ImageLine, image, given_run, lines_of}
 
 -- takes lock 3 and spins

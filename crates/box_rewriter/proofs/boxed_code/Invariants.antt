@@ -1,6 +1,6 @@
 use Rattle.std.proofs.Common.{◌≡◌, take}
 use Rattle.std.specs.Prelude.{flat_map}
-use Rattle.kernel_model.specs.Boxed.{boxed_instr}
+use Rattle.graft_code.specs.Boxed.{boxed_instr}
 use Rattle.box_rewriter.proofs.boxed_code.Given as goal
 
 abbrev pub invariant-loop-i : goal.invariant-loop-i

@@ -7,7 +7,8 @@ use Rattle.vino_top.proofs.run_script.Goals as goal
 
 pub returns-in-Err : goal.returns-in-Err
 returns-in-Err g c =
-    no_memory _ (devices (g.S.Source.seen c.args.src.now) (g.K.Sink.seen c.args.out.now) (g.D.Disk.seen c.args.disk.now))
+    no_memory _ (devices (g.S.Source.seen c.args.src.now) (g.K.Sink.seen c.args.out.now)
+    (g.D.Disk.seen c.args.disk.now))
 
 pub start-requires-clause-within : goal.start-requires-clause-within
 start-requires-clause-within g c = λ size.
@@ -15,4 +16,5 @@ start-requires-clause-within g c = λ size.
 
 pub returns-in_default : goal.returns-in_default
 returns-in_default g c =
-    no_memory _ (devices (g.S.Source.seen c.args.src.now) (g.K.Sink.seen c.args.out.now) (g.D.Disk.seen c.args.disk.now))
+    no_memory _ (devices (g.S.Source.seen c.args.src.now) (g.K.Sink.seen c.args.out.now)
+    (g.D.Disk.seen c.args.disk.now))

@@ -4,7 +4,8 @@ use Rattle.vino_top.proofs.EndLemmas.{known_run, not_read, demo_reads, usage_rea
 use Rattle.vino_top.proofs.vino.Goals as goal
 
 -- the statuses of a filter of images aren't that of the usage line
-known_image : (status : ℕ) → (status ≡ 0) ⊎ (status ≡ 2) ⊎ (status ≡ 3) ⊎ (status ≡ 4) ⊎ (status ≡ 5) ⊎ (status ≡ 6) ⊎ (status ≡ 7) → status ≢ 1
+known_image : (status : ℕ) → (status ≡ 0) ⊎ (status ≡ 2) ⊎ (status ≡ 3) ⊎ (status ≡ 4)
+    ⊎ (status ≡ 5) ⊎ (status ≡ 6) ⊎ (status ≡ 7) → status ≢ 1
 known_image status cases = λ is. grind (arith, cases, is)
 
 pub run_script-requires : goal.run_script-requires
@@ -123,4 +124,5 @@ pub returns-in-Demo-clause-source : goal.returns-in-Demo-clause-source
 returns-in-Demo-clause-source g c = not_read _ c.demo.result (demo_reads c.demo.result c.demo.ensures.statuses)
 
 pub returns-in-Nothing-clause-source : goal.returns-in-Nothing-clause-source
-returns-in-Nothing-clause-source g c = not_read _ c.write_usage.result (usage_reads c.write_usage.result c.write_usage.ensures.cases)
+returns-in-Nothing-clause-source g c =
+    not_read _ c.write_usage.result (usage_reads c.write_usage.result c.write_usage.ensures.cases)

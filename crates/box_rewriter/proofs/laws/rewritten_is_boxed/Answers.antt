@@ -1,6 +1,6 @@
 use Rattle.std.proofs.Common.{List, subst, sym}
-use Rattle.kernel_model.specs.declared.Instr.{Instr}
-use Rattle.kernel_model.specs.Boxed.{IsBoxed}
+use Rattle.graft_code.specs.declared.Instr.{Instr}
+use Rattle.graft_code.specs.Boxed.{IsBoxed}
 use Rattle.box_rewriter.specs.Laws.{RewrittenIsBoxed}
 use Rattle.box_rewriter.proofs.Boxing.{boxed_is_boxed}
 use Rattle.box_rewriter.proofs.Faults.{rewritten}

@@ -3,8 +3,8 @@ use Rattle.kernel_model.specs.Objects.{Objects, CacheValue}
 use Rattle.kernel_model.specs.Needs.{frame_of_block}
 use Rattle.kernel_model.specs.Fetch.{fetch_by, used}
 use Rattle.kernel_state.specs.Stores.{world_of_store, cache_of, policies_of}
-use Rattle.disk_log.specs.Joined.{extends_none}
-use Rattle.call_needs.specs.Fetching.{FetchMatchesSome, FetchDone, fetch_of, moment}
+use Rattle.kernel_state.specs.Joined.{extends_none}
+use Rattle.call_needs.specs.Fetching.{FetchMatchesSome, FetchDone, fetch_of, store_moment}
 use Rattle.call_needs.specs.Planning.{IsPlaceOf}
 use Rattle.call_needs.proofs.FetchLaws.{fetch_held}
 use Rattle.call_needs.proofs.fetches.fetch.Goals as goal
@@ -38,6 +38,6 @@ returns-in-Missing g c =
     let missing : frame_of_block (cache_of s) c.args.plan.block ≡ None =
     (subst (λ x. IsPlaceOf s c.args.plan.block x) c.in-Missing.is c.requires.plan.place).0 in
     subst (λ (x : Option ℕ). FetchDone (λ blocks w. fetch_by x v pol c.args.r.p c.args.plan.block c.args.r.answer
-    (cache_of s) blocks w) (moment s (g.D.Disk.seen c.args.disk.now) c.args.log.now)
-    (moment c.load.new.store (g.D.Disk.seen c.load.new.disk) c.load.new.log) c.load.result)
+    (cache_of s) blocks w) (store_moment s (g.D.Disk.seen c.args.disk.now) c.args.log.now)
+    (store_moment c.load.new.store (g.D.Disk.seen c.load.new.disk) c.load.new.log) c.load.result)
     (sym missing) c.load.ensures

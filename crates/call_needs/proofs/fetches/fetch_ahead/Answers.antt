@@ -2,8 +2,8 @@ use Rattle.std.proofs.Common.{◌≡◌, ℕ, Option, Some, None, rules, sym, ap
 use Rattle.kernel_model.specs.Needs.{frame_of_block}
 use Rattle.kernel_model.specs.Fetch.{fetch_ahead_by}
 use Rattle.kernel_state.specs.Stores.{world_of_store, cache_of, policies_of}
-use Rattle.disk_log.specs.Joined.{extends_none}
-use Rattle.call_needs.specs.Fetching.{FetchDone, fetch_ahead_of, moment}
+use Rattle.kernel_state.specs.Joined.{extends_none}
+use Rattle.call_needs.specs.Fetching.{FetchDone, fetch_ahead_of, store_moment}
 use Rattle.call_needs.specs.Planning.{IsPlaceOf}
 use Rattle.call_needs.proofs.FetchLaws.{fetch_held}
 use Rattle.call_needs.proofs.fetches.fetch_ahead.Goals as goal
@@ -34,6 +34,6 @@ returns-in-Missing g c =
     (subst (λ x. IsPlaceOf s c.args.plan.block x) c.in-Missing.is c.requires.plan.place).0 in
     subst (λ (x : Option ℕ). FetchDone (λ blocks w. fetch_ahead_by x v pol c.args.r.p c.args.plan.block
     c.args.r.answer (cache_of s) blocks w)
-    (moment s (g.D.Disk.seen c.args.disk.now) c.args.log.now)
-    (moment c.load.new.store (g.D.Disk.seen c.load.new.disk) c.load.new.log) c.load.result)
+    (store_moment s (g.D.Disk.seen c.args.disk.now) c.args.log.now)
+    (store_moment c.load.new.store (g.D.Disk.seen c.load.new.disk) c.load.new.log) c.load.result)
     (sym missing) c.load.ensures

@@ -3,8 +3,8 @@ use Rattle.kernel_model.specs.World.{Blocks}
 use Rattle.kernel_model.specs.Fetch.{Fetched}
 use Rattle.kernel_state.specs.Stores.{world_of_store, cache_of, policies_of}
 use Rattle.call_needs.specs.Fetching.{FetchLeft, blocks_after, load_of}
-use Rattle.disk_log.specs.Calls.{Knows}
-use Rattle.disk_log.specs.Joined.{extends_then}
+use Rattle.kernel_state.specs.Calls.{Knows}
+use Rattle.kernel_state.specs.Joined.{extends_then}
 use Rattle.call_needs.proofs.FetchLaws.{fetch_some, fetch_alike, read_is, read_failed}
 use Rattle.call_needs.proofs.fetches.load.Goals as goal
 

@@ -5,7 +5,7 @@ use Rattle.kernel_model.specs.World.{Blocks}
 use Rattle.kernel_model.specs.Objects.{Objects}
 use Rattle.kernel_model.specs.Meaning.{Fails}
 use Rattle.kernel_model.specs.FilePieces.{open_piece, free_descriptor, refuses}
-use Rattle.disk_log.specs.Calls.{Knows}
+use Rattle.kernel_state.specs.Calls.{Knows}
 use Rattle.call_pieces.specs.declared.Next.{Next}
 use Rattle.kernel_state.specs.Stores.{objects_of}
 use Rattle.call_pieces.specs.Matching.{PieceMatches, comes_after}

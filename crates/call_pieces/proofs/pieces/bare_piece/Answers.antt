@@ -3,7 +3,7 @@ use Rattle.kernel_model.specs.declared.SysCall.TheVariants.{Yield, TakeLock, Fre
 use Rattle.kernel_model.specs.Meaning.{stage}
 use Rattle.kernel_model.specs.Pieces.{yield_piece}
 use Rattle.kernel_state.specs.Stores.{world_of_store, objects_of}
-use Rattle.call_needs.specs.Fetching.{moment}
+use Rattle.call_needs.specs.Fetching.{store_moment}
 use Rattle.call_needs.specs.Works.{call_of}
 use Rattle.call_needs.proofs.Grants.{take_granted, free_granted, poke_granted, peek_granted, named}
 use Rattle.call_pieces.proofs.ServesLaws.{by_name, ends_by_name, serves_at_once}
@@ -33,7 +33,8 @@ poke-requires g c =
     record {
       lives = search rules;
       number = poke_granted c.requires.can.due.top (world_of_store c.args.store.now) c.args.work.now.caller
-          (call_of c.args.work.now) c.in-Poke.k c.in-Poke.v (c.requires.can.due.due.images, c.requires.can.due.due.granted)
+          (call_of c.args.work.now) c.in-Poke.k c.in-Poke.v
+          (c.requires.can.due.due.images, c.requires.can.due.due.granted)
           (named c.args.work.now _ c.in-Poke.is);
     }
 
@@ -55,7 +56,7 @@ returns-in-Yield-clause-done g c =
     let s = c.args.store.now in
     let d = g.D.Disk.seen c.args.disk.now in
     let after = c.yield_turn.new.store in
-    by_name w c.args.answer (moment s d c.args.log.now) (moment after d c.args.log.now) None
+    by_name w c.args.answer (store_moment s d c.args.log.now) (store_moment after d c.args.log.now) None
     c.yield_turn.result Yield (λ k. stage k c.yield_turn.new.piece) (named w _ c.in-Yield.is)
     (serves_at_once (λ blocks io. yield_piece w.piece (objects_of s) w.caller c.args.answer blocks)
     (yield_piece w.piece (objects_of s) w.caller c.args.answer) s after d c.args.log.now

@@ -1,4 +1,4 @@
-use Rattle.disk_log.specs.Joined.{made_alone}
+use Rattle.kernel_state.specs.Joined.{made_alone}
 use Rattle.call_pieces.proofs.pieces.piece.Goals as goal
 
 pub returns-clause-calls : goal.returns-clause-calls

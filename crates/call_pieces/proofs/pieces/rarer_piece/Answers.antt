@@ -1,12 +1,16 @@
 use Rattle.std.proofs.Common.{rules, ℕ, List, None, length, refl, subst}
-use Rattle.kernel_model.specs.declared.SysCall.TheVariants.{Spawn, Exit, OpenName, CloseFd, Write, Sync, Tune, Choose, Give, Install, Remove, Fund, Bill}
+use Rattle.kernel_model.specs.declared.SysCall.TheVariants.{Spawn, Exit, OpenName, CloseFd, Write}
+use Rattle.kernel_model.specs.declared.SysCall.TheVariants.{Sync, Tune, Choose, Give, Install}
+use Rattle.kernel_model.specs.declared.SysCall.TheVariants.{Remove, Fund, Bill}
 use Rattle.kernel_model.specs.World.{file_named}
 use Rattle.kernel_model.specs.Needs.{file_block}
 use Rattle.kernel_model.specs.FilePieces.{open_piece, free_descriptor, write_piece}
 use Rattle.kernel_state.specs.Stores.{world_of_store, objects_of}
-use Rattle.call_needs.specs.Fetching.{moment}
+use Rattle.call_needs.specs.Fetching.{store_moment}
 use Rattle.call_needs.specs.Works.{bare_stage_of, call_of}
-use Rattle.call_needs.proofs.Grants.{exit_granted, close_granted, tune_granted, choose_granted, give_granted, install_granted, remove_granted, fund_granted, bill_granted, write_granted, named}
+use Rattle.call_needs.proofs.Grants.{exit_granted, close_granted, tune_granted, choose_granted}
+use Rattle.call_needs.proofs.Grants.{give_granted, install_granted, remove_granted, fund_granted}
+use Rattle.call_needs.proofs.Grants.{bill_granted, write_granted, named}
 use Rattle.call_pieces.specs.Shared.{EndsAtOnce, Serves}
 use Rattle.call_pieces.proofs.ServesLaws.{by_name, ends_by_name, serves_last}
 use Rattle.call_pieces.proofs.pieces.rarer_piece.Goals as goal
@@ -50,20 +54,23 @@ pub tune-requires : goal.tune-requires
 tune-requires g c =
     record {
       granted = tune_granted c.requires.can.due.top (world_of_store c.args.store.now) c.args.work.now.caller
-          (call_of c.args.work.now) c.in-Tune.kind c.in-Tune.k c.in-Tune.v (c.requires.can.due.due.images, c.requires.can.due.due.granted)
+          (call_of c.args.work.now) c.in-Tune.kind c.in-Tune.k c.in-Tune.v
+          (c.requires.can.due.due.images, c.requires.can.due.due.granted)
           (named c.args.work.now _ c.in-Tune.is);
     }
 
 pub choose-requires-clause-kind : goal.choose-requires-clause-kind
 choose-requires-clause-kind g c =
     (choose_granted c.requires.can.due.top (world_of_store c.args.store.now) c.args.work.now.caller
-    (call_of c.args.work.now) c.in-Choose.kind c.in-Choose.j (c.requires.can.due.due.images, c.requires.can.due.due.granted)
+    (call_of c.args.work.now) c.in-Choose.kind c.in-Choose.j
+    (c.requires.can.due.due.images, c.requires.can.due.due.granted)
     (named c.args.work.now _ c.in-Choose.is)).0
 
 pub choose-requires-clause-granted : goal.choose-requires-clause-granted
 choose-requires-clause-granted g c =
     (choose_granted c.requires.can.due.top (world_of_store c.args.store.now) c.args.work.now.caller
-    (call_of c.args.work.now) c.in-Choose.kind c.in-Choose.j (c.requires.can.due.due.images, c.requires.can.due.due.granted)
+    (call_of c.args.work.now) c.in-Choose.kind c.in-Choose.j
+    (c.requires.can.due.due.images, c.requires.can.due.due.granted)
     (named c.args.work.now _ c.in-Choose.is)).1
 
 pub give-requires : goal.give-requires
@@ -71,7 +78,8 @@ give-requires g c =
     record {
       lives = search rules;
       receiver = give_granted c.requires.can.due.top (world_of_store c.args.store.now) c.args.work.now.caller
-          (call_of c.args.work.now) c.in-Give.q c.in-Give.kind c.in-Give.n (c.requires.can.due.due.images, c.requires.can.due.due.granted)
+          (call_of c.args.work.now) c.in-Give.q c.in-Give.kind c.in-Give.n
+          (c.requires.can.due.due.images, c.requires.can.due.due.granted)
           (named c.args.work.now _ c.in-Give.is);
     }
 
@@ -80,26 +88,30 @@ install-requires-clause-place g c =
     record {
       lives = search rules;
       point = (install_granted c.requires.can.due.top (world_of_store c.args.store.now) c.args.work.now.caller
-          (call_of c.args.work.now) c.in-Install.pt c.in-Install.image c.in-Install.limit c.requires.can.due.few (c.requires.can.due.due.images, c.requires.can.due.due.granted)
+          (call_of c.args.work.now) c.in-Install.pt c.in-Install.image c.in-Install.limit
+          c.requires.can.due.few (c.requires.can.due.due.images, c.requires.can.due.due.granted)
           (named c.args.work.now _ c.in-Install.is)).point;
     }
 
 pub install-requires-clause-image : goal.install-requires-clause-image
 install-requires-clause-image g c =
     (install_granted c.requires.can.due.top (world_of_store c.args.store.now) c.args.work.now.caller
-    (call_of c.args.work.now) c.in-Install.pt c.in-Install.image c.in-Install.limit c.requires.can.due.few (c.requires.can.due.due.images, c.requires.can.due.due.granted)
+    (call_of c.args.work.now) c.in-Install.pt c.in-Install.image c.in-Install.limit
+    c.requires.can.due.few (c.requires.can.due.due.images, c.requires.can.due.due.granted)
     (named c.args.work.now _ c.in-Install.is)).number
 
 pub install-requires-clause-some : goal.install-requires-clause-some
 install-requires-clause-some g c =
     (install_granted c.requires.can.due.top (world_of_store c.args.store.now) c.args.work.now.caller
-    (call_of c.args.work.now) c.in-Install.pt c.in-Install.image c.in-Install.limit c.requires.can.due.few (c.requires.can.due.due.images, c.requires.can.due.due.granted)
+    (call_of c.args.work.now) c.in-Install.pt c.in-Install.image c.in-Install.limit
+    c.requires.can.due.few (c.requires.can.due.due.images, c.requires.can.due.due.granted)
     (named c.args.work.now _ c.in-Install.is)).some
 
 pub install-requires-clause-most : goal.install-requires-clause-most
 install-requires-clause-most g c =
     (install_granted c.requires.can.due.top (world_of_store c.args.store.now) c.args.work.now.caller
-    (call_of c.args.work.now) c.in-Install.pt c.in-Install.image c.in-Install.limit c.requires.can.due.few (c.requires.can.due.due.images, c.requires.can.due.due.granted)
+    (call_of c.args.work.now) c.in-Install.pt c.in-Install.image c.in-Install.limit
+    c.requires.can.due.few (c.requires.can.due.due.images, c.requires.can.due.due.granted)
     (named c.args.work.now _ c.in-Install.is)).most
 
 pub remove-requires : goal.remove-requires
@@ -108,7 +120,8 @@ remove-requires g c =
       place = record {
         lives = search rules;
         point = remove_granted c.requires.can.due.top (world_of_store c.args.store.now) c.args.work.now.caller
-            (call_of c.args.work.now) c.in-Remove.pt c.requires.can.due.few (c.requires.can.due.due.images, c.requires.can.due.due.granted)
+            (call_of c.args.work.now) c.in-Remove.pt c.requires.can.due.few
+            (c.requires.can.due.due.images, c.requires.can.due.due.granted)
             (named c.args.work.now _ c.in-Remove.is);
       };
     }
@@ -119,7 +132,8 @@ fund-requires g c =
       place = record {
         lives = search rules;
         point = fund_granted c.requires.can.due.top (world_of_store c.args.store.now) c.args.work.now.caller
-            (call_of c.args.work.now) c.in-Fund.pt c.in-Fund.kind c.in-Fund.n c.requires.can.due.few (c.requires.can.due.due.images, c.requires.can.due.due.granted)
+            (call_of c.args.work.now) c.in-Fund.pt c.in-Fund.kind c.in-Fund.n c.requires.can.due.few
+            (c.requires.can.due.due.images, c.requires.can.due.due.granted)
             (named c.args.work.now _ c.in-Fund.is);
       };
     }
@@ -130,7 +144,8 @@ bill-requires g c =
       place = record {
         lives = search rules;
         point = bill_granted c.requires.can.due.top (world_of_store c.args.store.now) c.args.work.now.caller
-            (call_of c.args.work.now) c.in-Bill.pt c.requires.can.due.few (c.requires.can.due.due.images, c.requires.can.due.due.granted)
+            (call_of c.args.work.now) c.in-Bill.pt c.requires.can.due.few
+            (c.requires.can.due.due.images, c.requires.can.due.due.granted)
             (named c.args.work.now _ c.in-Bill.is);
       };
     }
@@ -182,8 +197,8 @@ returns-in-Write-clause-done g c =
     let v = world_of_store s in
     let o = objects_of s in
     let x = c.in-Write in
-    let before = moment s (g.D.Disk.seen c.args.disk.now) c.args.log.now in
-    let after = moment c.write.new.store (g.D.Disk.seen c.write.new.disk) c.write.new.log in
+    let before = store_moment s (g.D.Disk.seen c.args.disk.now) c.args.log.now in
+    let after = store_moment c.write.new.store (g.D.Disk.seen c.write.new.disk) c.write.new.log in
     by_name w c.args.answer before after None c.write.result (Write x.fd x.i x.off w.bytes.items)
     (λ k. bare_stage_of w) (named w _ x.is)
     (subst (λ (bytes : List ℕ). Serves (λ blocks io. write_piece (file_block v
@@ -196,8 +211,8 @@ pub returns-in-Sync-clause-done : goal.returns-in-Sync-clause-done
 returns-in-Sync-clause-done g c =
     rw c.requires.nothing
     (let w = c.args.work.now in
-    let before = moment c.args.store.now (g.D.Disk.seen c.args.disk.now) c.args.log.now in
-    let after = moment c.sync.new.store (g.D.Disk.seen c.sync.new.disk) c.sync.new.log in
+    let before = store_moment c.args.store.now (g.D.Disk.seen c.args.disk.now) c.args.log.now in
+    let after = store_moment c.sync.new.store (g.D.Disk.seen c.sync.new.disk) c.sync.new.log in
     by_name w c.args.answer before after None c.sync.result Sync (λ k. bare_stage_of w)
     (named w _ c.in-Sync.is)
     (serves_last _ before after c.sync.result (bare_stage_of w) c.sync.ensures.done))
@@ -230,7 +245,8 @@ pub returns-in-Install-clause-done : goal.returns-in-Install-clause-done
 returns-in-Install-clause-done g c =
     rw c.requires.nothing
     (ends_by_name c.args.work.now c.args.answer c.args.store.now c.install.new.store
-    (g.D.Disk.seen c.args.disk.now) c.args.log.now c.install.result (Install c.in-Install.pt c.in-Install.image c.in-Install.limit) _
+    (g.D.Disk.seen c.args.disk.now) c.args.log.now c.install.result
+    (Install c.in-Install.pt c.in-Install.image c.in-Install.limit) _
     (named c.args.work.now _ c.in-Install.is) c.requires.can.disk.fresh (λ blocks io. refl)
     c.install.ensures.done)
 

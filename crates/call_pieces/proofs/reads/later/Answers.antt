@@ -6,7 +6,8 @@ use Rattle.kernel_model.specs.FilePieces.{read_third, with_ahead}
 use Rattle.kernel_state.specs.Stores.{world_of_store, objects_of, cache_of}
 use Rattle.call_needs.specs.Fetching.{fetch_ahead_of}
 use Rattle.call_pieces.specs.Shared.{read_stage}
-use Rattle.call_pieces.proofs.ReadLaws.{file_here, file_after, changed_file, goes_later, third_came, third_block, none_ahead, some_ahead}
+use Rattle.call_pieces.proofs.ReadLaws.{file_here, file_after, changed_file, goes_later}
+use Rattle.call_pieces.proofs.ReadLaws.{third_came, third_block, none_ahead, some_ahead}
 use Rattle.call_pieces.proofs.WriteLaws.{fetch_failed}
 use Rattle.call_pieces.proofs.reads.later.Goals as goal
 

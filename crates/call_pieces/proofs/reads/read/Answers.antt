@@ -3,7 +3,7 @@ use Rattle.kernel_model.specs.declared.OpenRow.{OpenRow}
 use Rattle.kernel_model.specs.declared.Refusal.TheVariants.{BadFd}
 use Rattle.kernel_model.specs.FilePieces.{read_piece}
 use Rattle.kernel_state.specs.Stores.{world_of_store, objects_of}
-use Rattle.call_needs.specs.Fetching.{moment}
+use Rattle.call_needs.specs.Fetching.{store_moment}
 use Rattle.call_pieces.specs.Shared.{Serves, read_stage, read_of, first_of, second_of, later_of}
 use Rattle.call_pieces.proofs.ReadLaws.{read_zero, read_one, read_later, few_kinds}
 use Rattle.call_pieces.proofs.ServesLaws.{serves_as, serves_at_once, serves_refused}
@@ -26,8 +26,8 @@ returns-in-0-clause-done g c =
     let s = c.args.store.now in
     let r = c.args.r in
     serves_as (read_of s c.args.piece.now r) (first_of s r c.in-Some.opened)
-    (moment s (g.D.Disk.seen c.args.disk.now) c.args.log.now)
-    (moment c.first.new.store (g.D.Disk.seen c.first.new.disk) c.first.new.log) c.first.new.gave
+    (store_moment s (g.D.Disk.seen c.args.disk.now) c.args.log.now)
+    (store_moment c.first.new.store (g.D.Disk.seen c.first.new.disk) c.first.new.log) c.first.new.gave
     c.first.result (read_stage r 1)
     (λ blocks w. read_zero c.args.piece.now (world_of_store s) (objects_of s) blocks r.p r.fd r.i
     r.off r.len _ c.in-Some.opened r.answer w c.in-0.is (sym c.file.ensures.value ∙ c.in-Some.is))
@@ -50,8 +50,8 @@ returns-in_default-piece-clause-done g c =
     rw c.requires.nothing
     (let s = c.args.store.now in
     let r = c.args.r in
-    let before = moment s (g.D.Disk.seen c.args.disk.now) c.args.log.now in
-    let after = moment c.later.new.store (g.D.Disk.seen c.later.new.disk) c.later.new.log in
+    let before = store_moment s (g.D.Disk.seen c.args.disk.now) c.args.log.now in
+    let after = store_moment c.later.new.store (g.D.Disk.seen c.later.new.disk) c.later.new.log in
     let few = few_kinds r.fd c.args.piece.now _ c.requires.fits in
     let third : c.args.piece.now ≡ 2 = omega arith in
     subst (λ (k : ℕ). Serves (read_of s c.args.piece.now r) before after None c.later.result

@@ -1,16 +1,18 @@
-use Rattle.std.proofs.Common.{rules, ◌≡◌, ℕ, List, Bool, slice_index, ◌∙◌, Some, None, cond, refl, sym, ap, subst, arith}
+use Rattle.std.proofs.Common.{rules, ◌≡◌, ℕ, List, Bool, slice_index, ◌∙◌, Some, None, cond, refl}
+use Rattle.std.proofs.Common.{sym, ap, subst, arith}
 use Rattle.kernel_model.specs.World.{World}
 use Rattle.kernel_model.specs.Objects.{FrameValue, at}
 use Rattle.kernel_model.specs.Fetch.{bytes_of, cleaned}
 use Rattle.kernel_model.specs.FilePieces.{with_cache}
-use Rattle.disk_log.specs.Calls.{Knows}
-use Rattle.disk_log.specs.Joined.{extends_none, extends_then}
+use Rattle.kernel_state.specs.Calls.{Knows}
+use Rattle.kernel_state.specs.Joined.{extends_none, extends_then}
 use Rattle.std.specs.Result.{is_err}
 use Rattle.kernel_state.specs.Stores.{world_of_store, objects_of, cache_of}
 use Rattle.call_pieces.specs.Shared.{sync_of}
 use Rattle.call_pieces.proofs.Logs.{last_failed}
 use Rattle.call_pieces.proofs.LeftLaws.{some_of_all}
-use Rattle.call_pieces.proofs.SyncLaws.{Midway, begins, past_clean, past_written, ends_failed, ends_well, left_failed, left_well, of_err, of_ok}
+use Rattle.call_pieces.proofs.SyncLaws.{Midway, begins, past_clean, past_written, ends_failed}
+use Rattle.call_pieces.proofs.SyncLaws.{ends_well, left_failed, left_well, of_err, of_ok}
 use Rattle.call_pieces.proofs.syncs.sync.Goals as goal
 
 pub loop-f-init : goal.loop-f-init
@@ -31,7 +33,10 @@ pub loop-f-preserved-in_default : goal.loop-f-preserved-in_default
 loop-f-preserved-in_default g c =
     let l = c.loop-f.invariant in
     record {
-      so_far = past_clean c.args.store.now.setup.frames c.loop-f.f c.loop-f.written (objects_of c.args.store.now) (objects_of c.loop-f.store) (g.D.Disk.seen c.args.disk.now).known
+      so_far =
+          past_clean c.args.store.now.setup.frames c.loop-f.f c.loop-f.written
+          (objects_of c.args.store.now) (objects_of c.loop-f.store)
+          (g.D.Disk.seen c.args.disk.now).known
           (g.D.Disk.seen c.loop-f.disk).known c.loop-f.log c.loop-f-test.true l.so_far c.in_default.ensures.value;
       calls = l.calls;
       queue = l.queue;
@@ -47,11 +52,20 @@ loop-f-preserved g c =
     let well = c.if-is_err.ensures.negation in
     let cache = cache_of c.loop-f.store in
     record {
-      so_far = past_written c.args.store.now.setup.frames c.loop-f.f c.in-Some.b c.loop-f.written (objects_of c.args.store.now) (objects_of c.loop-f.store) (objects_of c.write_back.new.store)
-          (g.D.Disk.seen c.args.disk.now).known (g.D.Disk.seen c.loop-f.disk).known (g.D.Disk.seen c.write_back.new.disk).known c.loop-f.log c.write_back.new.log (is_err c.write_back.result) c.loop-f-test.true l.so_far
+      so_far =
+          past_written c.args.store.now.setup.frames c.loop-f.f c.in-Some.b
+          c.loop-f.written (objects_of c.args.store.now) (objects_of c.loop-f.store)
+          (objects_of c.write_back.new.store)
+          (g.D.Disk.seen c.args.disk.now).known (g.D.Disk.seen c.loop-f.disk).known
+          (g.D.Disk.seen c.write_back.new.disk).known c.loop-f.log c.write_back.new.log
+          (is_err c.write_back.result) c.loop-f-test.true l.so_far
           (sym c.in-Some.ensures.value) w.noted (sym c.if-is_err.ensures.value)
-          (of_ok c.write_back.result ((x : FrameValue) → cache.frame c.loop-f.f ≡ Some x → objects_of c.write_back.new.store ≡ with_cache (cleaned c.loop-f.f x cache) (objects_of c.loop-f.store)) well w.cleaned)
-          (λ blocks tells. subst (λ t. Knows (g.D.Disk.seen c.write_back.new.disk).known (cond t (at c.in-Some.b (bytes_of cache c.loop-f.f) blocks) blocks)) well (w.known blocks tells));
+          (of_ok c.write_back.result ((x : FrameValue) → cache.frame c.loop-f.f ≡ Some x →
+          objects_of c.write_back.new.store ≡ with_cache (cleaned c.loop-f.f x cache)
+          (objects_of c.loop-f.store)) well w.cleaned)
+          (λ blocks tells. subst (λ t. Knows (g.D.Disk.seen c.write_back.new.disk).known
+          (cond t (at c.in-Some.b (bytes_of cache c.loop-f.f) blocks) blocks)) well
+          (w.known blocks tells));
       calls = extends_then (g.D.Disk.seen c.args.disk.now) (g.D.Disk.seen c.loop-f.disk)
           (g.D.Disk.seen c.write_back.new.disk) c.args.log.now c.loop-f.log c.write_back.new.log l.calls w.calls;
       queue = w.queue ∙ l.queue;

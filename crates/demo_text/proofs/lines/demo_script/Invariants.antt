@@ -1,5 +1,5 @@
 use Rattle.std.proofs.Common.{◌≡◌, ◌++◌, length, flat_map}
-use Rattle.kernel_model.specs.Text.{line}
+use Rattle.script_model.specs.Text.{line}
 use Rattle.demo_text.proofs.lines.demo_script.Given as goal
 
 abbrev pub invariant-loop-line : goal.invariant-loop-line

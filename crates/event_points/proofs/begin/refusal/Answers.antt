@@ -1,5 +1,5 @@
 use Rattle.std.proofs.Common.{sym, ◌∙◌}
-use Rattle.kernel_state.specs.Stores.{world_of_store}
+use Rattle.call_pieces.specs.Stores.{world_of_store}
 use Rattle.event_points.proofs.Granting.{refused_as_plain}
 use Rattle.event_points.proofs.begin.refusal.Goals as goal
 

@@ -3,7 +3,7 @@ use Rattle.std.specs.List.{list_all}
 use Rattle.kernel_model.specs.declared.BareCall.{BareCall}
 use Rattle.kernel_model.specs.Bare.{call_with}
 use Rattle.kernel_model.specs.EventPoints.{event_fits}
-use Rattle.call_needs.specs.Works.{stage_of}
+use Rattle.call_pieces.specs.Works.{stage_of}
 use Rattle.event_points.proofs.HandlerLists.{stand_at_points}
 use Rattle.event_points.proofs.needs.need.Goals as goal
 

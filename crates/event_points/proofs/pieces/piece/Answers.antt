@@ -1,6 +1,6 @@
 use Rattle.kernel_model.specs.declared.BareCall.TheVariants as bare
-use Rattle.kernel_state.specs.Stores.{objects_of}
-use Rattle.call_needs.specs.Works.{answer_seen, stage_of}
+use Rattle.call_pieces.specs.Stores.{objects_of}
+use Rattle.call_pieces.specs.Works.{answer_seen, stage_of}
 use Rattle.event_points.proofs.LeftLaws.{of_call, gives_none}
 use Rattle.event_points.proofs.pieces.piece.Goals as goal
 

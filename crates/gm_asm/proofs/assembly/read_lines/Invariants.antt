@@ -1,5 +1,5 @@
 use Rattle.std.proofs.Common.{◌≡◌, ◌+◌, ◌≤◌, length}
-use Rattle.kernel_model.specs.Assembler.{with_lines, empty_assembly, lines_of}
+use Rattle.graft_texts.specs.Assembler.{with_lines, empty_assembly, lines_of}
 use Rattle.gm_asm.proofs.assembly.read_lines.Given as goal
 
 abbrev pub invariant-loop-line : goal.invariant-loop-line

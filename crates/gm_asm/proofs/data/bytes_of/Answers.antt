@@ -6,4 +6,6 @@ pub returns-in-Ok : goal.returns-in-Ok
 returns-in-Ok c = sym (hex_bytes-said c.args.digits.now ∙ ap said c.in-Ok.ensures.ok)
 
 pub returns-in_default : goal.returns-in_default
-returns-in_default c = sym (hex_bytes-err c.args.digits.now c.in-Err.fault c.in_default.not-OutOfMemory c.in-Err.ensures.err)
+returns-in_default c =
+    sym (hex_bytes-err c.args.digits.now c.in-Err.fault c.in_default.not-OutOfMemory
+    c.in-Err.ensures.err)

@@ -8,9 +8,11 @@ link_one-requires c = all_at is_placed_instr c.args.code.now c.loop-placed.place
 
 pub returns-in-Err-clause-err : goal.returns-in-Err-clause-err
 returns-in-Err-clause-err c =
-    Links-refuses _ placed_view c.args.code.now c.loop-placed.placed-index _ _ c.in-Err.fault c.loop-placed.invariant (omega arith) c.in-Err.ensures.err
+    Links-refuses _ placed_view c.args.code.now c.loop-placed.placed-index _ _ c.in-Err.fault
+    c.loop-placed.invariant (omega arith) c.in-Err.ensures.err
 
 pub loop-placed-preserved : goal.loop-placed-preserved
 loop-placed-preserved c =
     rw c.in_ok-push-in-Ok.ensures
-    (Links-more _ placed_view c.args.code.now c.loop-placed.placed-index _ _ c.in-Ok.instr c.loop-placed.invariant (omega arith) c.in-Ok.ensures.ok c.in-Ok.ensures.fit)
+    (Links-more _ placed_view c.args.code.now c.loop-placed.placed-index _ _ c.in-Ok.instr
+    c.loop-placed.invariant (omega arith) c.in-Ok.ensures.ok c.in-Ok.ensures.fit)

@@ -1,5 +1,5 @@
 use Rattle.std.proofs.Common.{◌≡◌, ◌++◌, take, flat_map}
-use Rattle.kernel_model.specs.Assembler.{instr_text}
+use Rattle.graft_texts.specs.Assembler.{instr_text}
 use Rattle.gm_asm.proofs.print.append_code.Given as goal
 
 abbrev pub invariant-loop-i : goal.invariant-loop-i

@@ -1,6 +1,6 @@
 use Rattle.std.proofs.Common.{◌≡◌, length}
 use Rattle.std.specs.List.{list_any}
-use Rattle.kernel_model.specs.Assembler.{is_empty}
+use Rattle.graft_texts.specs.Assembler.{is_empty}
 use Rattle.gm_asm.proofs.statement.has_empty_word.Given as goal
 
 abbrev pub invariant-loop-word : goal.invariant-loop-word

@@ -1,7 +1,7 @@
 use Rattle.std.proofs.Common.{◌≡◌, ℕ, ◌*◌, List, take, drop, refl, ap, ◌∙◌}
 use Rattle.std.proofs.lemmas.List.{drop-drop}
-use Rattle.kernel_model.specs.Bytes.{word_at}
-use Rattle.kernel_model.specs.Images.{head_of, head_length, flags_of, number_of}
+use Rattle.graft_code.specs.Bytes.{word_at}
+use Rattle.graft_code.specs.Images.{head_of, head_length, flags_of, number_of}
 use Rattle.gm_image.specs.Sealed.{Parts, sealed_part}
 use Rattle.gm_image.proofs.Splitting.{words_of-take}
 use Rattle.gm_image.proofs.sealed.read_parts.Goals as goal

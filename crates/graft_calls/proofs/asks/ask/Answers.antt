@@ -5,10 +5,10 @@ use Rattle.kernel_model.specs.GraftStep.{ask_refusal, ask_answered, after_ask}
 use Rattle.kernel_model.specs.Levels.{Level}
 use Rattle.kernel_model.specs.declared.Mode.{Mode}
 use Rattle.kernel_model.specs.Locks.{Touched, with_touch}
-use Rattle.lock_table.specs.Masks.{held}
-use Rattle.graft_accounts.specs.Table.{accounts_of}
+use Rattle.graft_levels.specs.Masks.{held}
+use Rattle.kernel_state.specs.Table.{accounts_of}
 use Rattle.kernel_state.specs.Stores.{world_of_store, objects_of}
-use Rattle.graft_loader.specs.Slots.{table_of}
+use Rattle.graft_levels.specs.Slots.{table_of}
 use Rattle.graft_levels.specs.declared.GraftLevel.{GraftLevel}
 use Rattle.graft_levels.specs.Chains.{came, level_of, outer_of}
 use Rattle.graft_levels.specs.Calls.{AreInside, HasWrittenBegun, needs_touched}
@@ -26,8 +26,16 @@ returns-in-Some-clause-kept g c =
             inside = c.drop_innermost.ensures.kept.inside (table_of c.args.images.now) h.inside;
             loaded = c.drop_innermost.ensures.kept.loaded (table_of c.args.images.now) h.loaded;
           });
-      elsewhere = (record { world = c.drop_innermost.ensures.kept.elsewhere.world; living = c.drop_innermost.ensures.kept.elsewhere.living; others = c.drop_innermost.ensures.kept.elsewhere.others; memory = c.drop_innermost.ensures.kept.elsewhere.memory });
-      memory = (still_begun c.args.inner.process _ c.drop_innermost.new.chain.levels c.args.store.now.ram c.drop_innermost.new.store.ram c.drop_innermost.ensures.kept.memory);
+      elsewhere =
+          (record {
+            world = c.drop_innermost.ensures.kept.elsewhere.world;
+            living = c.drop_innermost.ensures.kept.elsewhere.living;
+            others = c.drop_innermost.ensures.kept.elsewhere.others;
+            memory = c.drop_innermost.ensures.kept.elsewhere.memory;
+          });
+      memory =
+          (still_begun c.args.inner.process _ c.drop_innermost.new.chain.levels c.args.store.now.ram
+          c.drop_innermost.new.store.ram c.drop_innermost.ensures.kept.memory);
     }
 
 pub answer_ask-requires-clause-in_place : goal.answer_ask-requires-clause-in_place
@@ -36,12 +44,19 @@ answer_ask-requires-clause-in_place g c =
     let gs = c.args.inner.level ∷ c.args.chain.now.levels in
     let count = c.count.ensures.value in
     record {
-      placed = locks_placed c.args.store.now c.args.locks.now c.touch_asked.new.locks c.args.inner.process gs c.push.new.self c.args.chain.now.undo h.placed c.push.ensures
+      placed =
+          locks_placed c.args.store.now c.args.locks.now c.touch_asked.new.locks
+          c.args.inner.process gs c.push.new.self c.args.chain.now.undo h.placed c.push.ensures
           (λ d o le. ap (λ (x : Touched). x o)
-          (asked_apart c.args.id c.reg-r0.result c.args.inner.level.owner c.args.inner.process c.count.result c.args.inner.process d (held c.args.locks.now) (held c.touch_asked.new.locks) c.touch_asked.ensures
+          (asked_apart c.args.id c.reg-r0.result c.args.inner.level.owner c.args.inner.process
+          c.count.result c.args.inner.process d (held c.args.locks.now)
+          (held c.touch_asked.new.locks) c.touch_asked.ensures
           (grind (arith, nat_tests, le)) (grind (arith, nat_tests, le, count)))
           ∙ h.placed.unheld d o le);
-      inside = subst (λ (x : List GraftLevel). AreInside (table_of c.args.images.now) (accounts_of c.args.store.now.accounts) c.args.inner.process x) (sym c.push.ensures) h.inside;
+      inside =
+          subst (λ (x : List GraftLevel). AreInside (table_of c.args.images.now)
+          (accounts_of c.args.store.now.accounts) c.args.inner.process x)
+          (sym c.push.ensures) h.inside;
       loaded = h.loaded;
     }
 
@@ -58,12 +73,18 @@ returns-clause-step g c =
     let l = level_of s c.args.locks.now c.args.chain.now p c.args.inner.level in
     let ls = outer_of s c.args.locks.now c.args.chain.now p in
     let pt = c.asked_point-pt.result in
-    let point : pt ≡ asked_point id (l.machine.regs 0) = c.asked_point-pt.ensures.value ∙ ap (asked_point id) c.reg-r0.ensures in
-    let held_is = c.touch_asked.ensures ∙ ap (λ x. with_touch p 0 (asked_graft id x q).object Mode.Exclusive (needs_touched p c.count.result (asked_objects id x q) t)) c.reg-r0.ensures in
+    let point : pt ≡ asked_point id (l.machine.regs 0) = c.asked_point-pt.ensures.value
+    ∙ ap (asked_point id) c.reg-r0.ensures in
+    let held_is = c.touch_asked.ensures
+    ∙ ap (λ x. with_touch p 0 (asked_graft id x q).object Mode.Exclusive
+    (needs_touched p c.count.result (asked_objects id x q) t)) c.reg-r0.ensures in
     ap (λ x. came (after_ask v images w p l ls l.machine id x (ask_refusal w q x id (l ∷ ls)))) (sym point)
-    ∙ asked_on v images w p l ls id pt (ask_refusal w q pt id (l ∷ ls)) (sym (c.ask_refusal.ensures.value p s.ram t c.args.chain.now.undo w.things) ∙ c.in_default.is)
+    ∙ asked_on v images w p l ls id pt (ask_refusal w q pt id (l ∷ ls)) (sym
+    (c.ask_refusal.ensures.value p s.ram t c.args.chain.now.undo w.things) ∙ c.in_default.is)
     ∙ ap (λ (x : List Level). came (ask_answered v images w p q pt x (w.accounts.graft q pt)))
-    (sym (asked_levels id (l.machine.regs 0) p c.count.result s.ram t (held c.touch_asked.new.locks) c.args.inner.level c.args.chain.now.levels c.push.new.self c.args.chain.now.undo w.things c.push.ensures
+    (sym (asked_levels id (l.machine.regs 0) p c.count.result s.ram t (held c.touch_asked.new.locks)
+    c.args.inner.level c.args.chain.now.levels c.push.new.self c.args.chain.now.undo w.things
+    c.push.ensures
     c.count.ensures.value held_is))
     ∙ c.answer_ask.ensures.step
 
@@ -71,8 +92,15 @@ pub returns-clause-kept : goal.returns-clause-kept
 returns-clause-kept g c =
     record {
       in_place = (c.answer_ask.ensures.in_place);
-      elsewhere = (before_elsewhere c.args.store.now c.answer_ask.new.store c.args.locks.now c.touch_asked.new.locks c.args.inner.process c.answer_ask.ensures.elsewhere
-          (λ q d apart. asked_apart c.args.id c.reg-r0.result c.args.inner.level.owner c.args.inner.process c.count.result q d (held c.args.locks.now) (held c.touch_asked.new.locks) c.touch_asked.ensures
+      elsewhere =
+          (before_elsewhere c.args.store.now c.answer_ask.new.store c.args.locks.now
+          c.touch_asked.new.locks c.args.inner.process c.answer_ask.ensures.elsewhere
+          (λ q d apart. asked_apart c.args.id c.reg-r0.result c.args.inner.level.owner
+          c.args.inner.process c.count.result q d (held c.args.locks.now)
+          (held c.touch_asked.new.locks) c.touch_asked.ensures
           (grind (arith, nat_tests, apart)) (grind (arith, nat_tests, apart))));
-      memory = (subst (λ (x : List GraftLevel). HasWrittenBegun c.args.inner.process (length x) c.answer_ask.new.chain.levels c.args.store.now.ram c.answer_ask.new.store.ram) c.push.ensures c.answer_ask.ensures.memory);
+      memory =
+          (subst (λ (x : List GraftLevel). HasWrittenBegun c.args.inner.process (length x)
+          c.answer_ask.new.chain.levels c.args.store.now.ram c.answer_ask.new.store.ram)
+          c.push.ensures c.answer_ask.ensures.memory);
     }

@@ -1,7 +1,7 @@
 use Rattle.std.proofs.Common.{◌≡◌, ◌∙◌, Some, sym, ap}
 use Rattle.kernel_model.specs.Machine.{Done, next_call, flat_step}
-use Rattle.graft_machine.specs.Cpu.{Cpu, machine_of}
-use Rattle.graft_machine.proofs.Sandbox.{stays_inside}
+use Rattle.graft_levels.specs.Cpu.{Cpu, machine_of}
+use Rattle.graft_levels.proofs.Sandbox.{stays_inside}
 use Rattle.graft_calls.specs.Stretch.{setting_of}
 use Rattle.graft_calls.proofs.Reading.{call_is, read_quietly}
 use Rattle.graft_calls.proofs.reads.read_on.Goals as goal
@@ -14,7 +14,10 @@ returns g c =
     let k = machine_of c.pass.new.self ram in
     let id = c.in-Some.id in
     let next : next_call code m ≡ Some id = sym (c.next_call.ensures ram) ∙ c.in-Some.is in
-    let step : flat_step code m ≡ Done.Called id k = call_is code id m next ∙ ap (λ (x : Cpu). Done.Called id (machine_of x ram)) (sym c.pass.ensures) in
-    read_quietly stays_inside (setting_of c.args.store.now c.args.locks.now code c.args.seat) id c.in-Some-read.result m k (machine_of c.set_reg.new.self ram)
+    let step : flat_step code m ≡ Done.Called id k = call_is code id m next
+    ∙ ap (λ (x : Cpu). Done.Called id (machine_of x ram)) (sym c.pass.ensures) in
+    read_quietly stays_inside (setting_of c.args.store.now c.args.locks.now code c.args.seat) id
+    c.in-Some-read.result m k (machine_of c.set_reg.new.self ram)
     c.requires.boxed next step (sym (c.set_reg.ensures.machine ram))
-    (λ i h same. rw c.in-Some-read.is at c.read.ensures code i h same) (λ slot inside. c.set_reg.ensures.inside code slot ram inside)
+    (λ i h same. rw c.in-Some-read.is at c.read.ensures code i h same)
+    (λ slot inside. c.set_reg.ensures.inside code slot ram inside)

@@ -1,5 +1,5 @@
 use Rattle.std.proofs.Common.{◌≡◌, ◌==◌, take}
-use Rattle.kernel_model.specs.World.{same_bytes}
+use Rattle.graft_code.specs.World.{same_bytes}
 use Rattle.graft_loader.proofs.mac.is_same.Given as goal
 
 abbrev pub invariant-loop-i : goal.invariant-loop-i

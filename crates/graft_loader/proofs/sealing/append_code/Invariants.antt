@@ -1,5 +1,5 @@
 use Rattle.std.proofs.Common.{◌≡◌, ◌++◌, take}
-use Rattle.kernel_model.specs.Images.{code_bytes}
+use Rattle.graft_code.specs.Images.{code_bytes}
 use Rattle.graft_loader.proofs.sealing.append_code.Given as goal
 
 abbrev pub invariant-loop-instr : goal.invariant-loop-instr

@@ -1,6 +1,6 @@
 use Rattle.std.proofs.Common.{◌≡◌, ◌+◌, ◌-◌, ◌≤◌, length}
-use Rattle.kernel_model.specs.LanguageWords.{words}
-use Rattle.kernel_model.specs.LanguageReading as spec
+use Rattle.graft_texts.specs.LanguageWords.{words}
+use Rattle.graft_texts.specs.LanguageReading as spec
 use Rattle.graft_syntax.specs.Places.{words_behind}
 use Rattle.graft_syntax.specs.Readings.{reading}
 use Rattle.graft_syntax.proofs.reader.read_words.Given as goal

@@ -1,6 +1,6 @@
 use Rattle.kernel_model.specs.Bare.{call_with}
-use Rattle.kernel_state.specs.Stores.{world_of_store, objects_of}
-use Rattle.call_needs.specs.Works.{call_of, stage_of, registers_seen}
+use Rattle.call_pieces.specs.Stores.{world_of_store, objects_of}
+use Rattle.call_pieces.specs.Works.{call_of, stage_of, registers_seen}
 use Rattle.call_pieces.specs.Matching.{comes_after}
 use Rattle.high_marks.proofs.Pieces.{mark_some}
 use Rattle.high_marks.proofs.HighMarksCalls.piece.Goals as goal

@@ -1,8 +1,8 @@
 use Rattle.std.proofs.Common.{Bool, List, None, subst}
-use Rattle.disk_log.specs.Calls.{Made}
-use Rattle.kernel_state.specs.Stores.{world_of_store, objects_of}
-use Rattle.call_needs.specs.Masks.{table_of_mask, mask_tells}
-use Rattle.call_needs.specs.Works.{stage_of, answer_seen}
+use Rattle.call_pieces.specs.Calls.{Made}
+use Rattle.call_pieces.specs.Stores.{world_of_store, objects_of}
+use Rattle.call_pieces.specs.Masks.{table_of_mask, mask_tells}
+use Rattle.call_pieces.specs.Works.{stage_of, answer_seen}
 use Rattle.call_pieces.specs.Matching.{comes_after}
 use Rattle.high_marks.proofs.Pieces.{poke_begun, poke_refused, poke_left, ends_with}
 use Rattle.high_marks.proofs.beside.poke_once.Goals as goal

@@ -1,6 +1,6 @@
 use Rattle.std.proofs.Common.{◌∙◌, ap, refl, sym, Some, Ok}
 use Rattle.graft_loader.specs.Slots.{table_of}
-use Rattle.kernel_state.specs.Stores.{world_of_store}
+use Rattle.call_pieces.specs.Stores.{world_of_store}
 use Rattle.kernel_model.specs.Bare.{call_with}
 use Rattle.kernel_model.specs.World.{World}
 use Rattle.kernel_model.specs.declared.Event.TheVariants.{Sys}
@@ -11,38 +11,73 @@ use Rattle.placed_laws.specs.PlacedSteps.{placed_joins, with_placed_call}
 use Rattle.placed_laws.specs.PlacedEvents.{placed_begun, placed_event_on, placed_last, placed_settled}
 use Rattle.running_kernel.specs.Idle.{joined_in}
 use Rattle.running_kernel.specs.Views.{placed_of}
-use Rattle.kernel_core.proofs.EventLemmas.{refused_early, refused_elsewise, no_call_told, sys_begun, sys_busy, sys_refused, sys_unliving, went_refused, went_refused_at}
+use Rattle.kernel_core.proofs.EventLemmas.{refused_early, refused_elsewise, no_call_told}
+use Rattle.kernel_core.proofs.EventLemmas.{sys_begun, sys_busy, sys_refused, sys_unliving}
+use Rattle.kernel_core.proofs.EventLemmas.{went_refused, went_refused_at}
 use Rattle.kernel_core.proofs.WentLemmas.{went_as, went_then}
 use Rattle.kernel_core.proofs.events.system.Goals as goal
 
 pub returns-then-not-living : goal.returns-then-not-living
 returns-then-not-living g c =
+    let m = g.C.Meaning.Rules.meaning in
     let a = c.args in
-    went_refused g.C.Meaning.Rules.meaning (placed_event_on g.C.Meaning.Rules.meaning a.request.number (Sys a.p (call_with a.request.call a.request.bytes.now.items))) a.running.now (Refused a.request.number NoProcess) a.trace.now.notes c.push.new.self (g.D.Disk.seen a.disk.now) c.requires.running c.requires.abstraction (sys_unliving g.C.Meaning.Rules.meaning (placed_of a.running.now) a.request.number a.p (call_with a.request.call a.request.bytes.now.items) (sym c.living.ensures.value ∙ c.if-not-living.true)) c.push.ensures refl
+    went_refused m (placed_event_on m a.request.number
+    (Sys a.p (call_with a.request.call a.request.bytes.now.items)))
+    a.running.now (Refused a.request.number NoProcess) a.trace.now.notes
+    c.push.new.self (g.D.Disk.seen a.disk.now) c.requires.running
+    c.requires.abstraction (sys_unliving m (placed_of a.running.now)
+    a.request.number a.p (call_with a.request.call a.request.bytes.now.items)
+    (sym c.living.ensures.value ∙ c.if-not-living.true)) c.push.ensures refl
 
 pub returns-in-Some : goal.returns-in-Some
 returns-in-Some g c =
+    let m = g.C.Meaning.Rules.meaning in
     let a = c.args in
-    went_refused g.C.Meaning.Rules.meaning (placed_event_on g.C.Meaning.Rules.meaning a.request.number (Sys a.p (call_with a.request.call a.request.bytes.now.items))) a.running.now (Refused a.request.number (Busy c.in-Some.busy)) a.trace.now.notes c.push-in-Some.new.self (g.D.Disk.seen a.disk.now) c.requires.running c.requires.abstraction (sys_busy g.C.Meaning.Rules.meaning (placed_of a.running.now) a.request.number a.p (call_with a.request.call a.request.bytes.now.items) c.in-Some.busy (sym c.living.ensures.value ∙ c.if-not-living.false) (sym c.in-Some.is ∙ c.call_number.ensures)) c.push-in-Some.ensures refl
+    went_refused m (placed_event_on m a.request.number
+    (Sys a.p (call_with a.request.call a.request.bytes.now.items))) a.running.now
+    (Refused a.request.number (Busy c.in-Some.busy)) a.trace.now.notes
+    c.push-in-Some.new.self (g.D.Disk.seen a.disk.now) c.requires.running
+    c.requires.abstraction (sys_busy m (placed_of a.running.now)
+    a.request.number a.p (call_with a.request.call a.request.bytes.now.items)
+    c.in-Some.busy (sym c.living.ensures.value ∙ c.if-not-living.false)
+    (sym c.in-Some.is ∙ c.call_number.ensures)) c.push-in-Some.ensures refl
 
-pub begin-requires-clause-at : goal.begin-requires-clause-at
-begin-requires-clause-at g c = record { process = c.living.ensures.number c.if-not-living.false; running = c.requires.running; abstraction = c.requires.abstraction }
+pub start_call-requires-clause-at : goal.start_call-requires-clause-at
+start_call-requires-clause-at g c =
+    record {
+      process = c.living.ensures.number c.if-not-living.false;
+      running = c.requires.running;
+      abstraction = c.requires.abstraction;
+    }
 
-pub begin-requires-clause-none : goal.begin-requires-clause-none
-begin-requires-clause-none g c = let a = c.args in no_call_told (placed_of a.running.now) a.p c.call_number.result c.call_number.ensures c.in_default.is
+pub start_call-requires-clause-none : goal.start_call-requires-clause-none
+start_call-requires-clause-none g c =
+    let a = c.args in
+    no_call_told (placed_of a.running.now) a.p c.call_number.result c.call_number.ensures
+    c.in_default.is
 
 pub returns-in-Err : goal.returns-in-Err
 returns-in-Err g c =
+    let m = g.C.Meaning.Rules.meaning in
     let a = c.args in
     let h = c.in-Err.ensures in
     let v = world_of_store a.running.now.store in
     let images = table_of a.running.now.images in
     let call = call_with a.request.call a.request.bytes.now.items in
-    went_refused_at g.C.Meaning.Rules.meaning (placed_event_on g.C.Meaning.Rules.meaning a.request.number (Sys a.p (call_with a.request.call a.request.bytes.now.items))) a.running.now c.begin.new.running (Refused a.request.number c.in-Err.refusal) a.trace.now.notes c.push-in-Err.new.self (g.D.Disk.seen a.disk.now) h.running c.requires.abstraction h.placed (sys_refused g.C.Meaning.Rules.meaning (placed_of a.running.now) a.request.number a.p (call_with a.request.call a.request.bytes.now.items) c.in-Err.refusal (sym c.living.ensures.value ∙ c.if-not-living.false) (no_call_told (placed_of a.running.now) a.p c.call_number.result c.call_number.ensures c.in_default.is) h.refused) c.push-in-Err.ensures
-    (refused_elsewise a.request.number c.in-Err.refusal (refused_early c.in-Err.refusal (g.C.Meaning.Rules.meaning.early v images a.p call) h.refused (g.met.C.Calls.no_early_fault v images a.p call)))
+    went_refused_at m (placed_event_on m a.request.number
+    (Sys a.p (call_with a.request.call a.request.bytes.now.items))) a.running.now
+    c.start_call.new.running (Refused a.request.number c.in-Err.refusal) a.trace.now.notes
+    c.push-in-Err.new.self (g.D.Disk.seen a.disk.now) h.running c.requires.abstraction
+    h.placed (sys_refused m (placed_of a.running.now) a.request.number a.p
+    (call_with a.request.call a.request.bytes.now.items) c.in-Err.refusal
+    (sym c.living.ensures.value ∙ c.if-not-living.false) (no_call_told (placed_of a.running.now)
+    a.p c.call_number.result c.call_number.ensures c.in_default.is) h.refused)
+    c.push-in-Err.ensures
+    (refused_elsewise a.request.number c.in-Err.refusal (refused_early c.in-Err.refusal
+    (m.early v images a.p call) h.refused (g.met.C.Calls.no_early_fault v images a.p call)))
 
-pub run-requires : goal.run-requires
-run-requires g c =
+pub run_call-requires : goal.run_call-requires
+run_call-requires g c =
     let w = c.in-Ok.ensures.went c.args.trace.now.notes (g.D.Disk.seen c.args.disk.now) in
     record {
       process = c.living.ensures.number c.if-not-living.false;
@@ -58,8 +93,17 @@ returns-in-Ok g c =
     let h = c.in-Ok.ensures in
     let t = h.first in
     let d = g.D.Disk.seen a.disk.now in
-    let e = g.D.Disk.seen c.run.new.disk in
-    went_as m (placed_event_on m a.request.number (Sys a.p (call_with a.request.call a.request.bytes.now.items))) (λ r. placed_last m a.p (placed_begun m a.request.number a.p (Ok t) r)) a.running.now c.run.new.running a.trace.now.notes c.run.new.trace.notes d e
-    (sys_begun m (placed_of a.running.now) a.request.number a.p (call_with a.request.call a.request.bytes.now.items) t (sym c.living.ensures.value ∙ c.if-not-living.false) (no_call_told (placed_of a.running.now) a.p c.call_number.result c.call_number.ensures c.in_default.is) h.granted)
-    (went_then m (λ r. placed_joins a.p (with_placed_call a.p (Some (first_placed a.request.number t)) r)) (λ r. placed_last m a.p (placed_settled m r)) a.running.now (joined_in a.p c.begin.new.running) c.run.new.running a.trace.now.notes a.trace.now.notes c.run.new.trace.notes d d e
-    (h.went a.trace.now.notes d) c.run.ensures)
+    let e = g.D.Disk.seen c.run_call.new.disk in
+    went_as m (placed_event_on m a.request.number
+    (Sys a.p (call_with a.request.call a.request.bytes.now.items)))
+    (λ r. placed_last m a.p (placed_begun m a.request.number a.p (Ok t) r)) a.running.now
+    c.run_call.new.running a.trace.now.notes c.run_call.new.trace.notes d e
+    (sys_begun m (placed_of a.running.now) a.request.number a.p
+    (call_with a.request.call a.request.bytes.now.items) t
+    (sym c.living.ensures.value ∙ c.if-not-living.false) (no_call_told (placed_of a.running.now)
+    a.p c.call_number.result c.call_number.ensures c.in_default.is) h.granted)
+    (went_then m (λ r. placed_joins a.p (with_placed_call a.p
+    (Some (first_placed a.request.number t)) r)) (λ r. placed_last m a.p (placed_settled m r))
+    a.running.now (joined_in a.p c.start_call.new.running) c.run_call.new.running
+    a.trace.now.notes a.trace.now.notes c.run_call.new.trace.notes d d e
+    (h.went a.trace.now.notes d) c.run_call.ensures)

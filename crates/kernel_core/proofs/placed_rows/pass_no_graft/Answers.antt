@@ -11,5 +11,6 @@ loop-at-init g c = nothing_passed (placed_of c.args.running.now) Grafts c.args.a
 
 pub loop-at-preserved : goal.loop-at-preserved
 loop-at-preserved g c =
-    none_passed (placed_of c.args.running.now) Grafts c.args.at.now c.loop-at.at c.pass_place.new.self c.loop-at.invariant c.requires.section c.loop-at-test.true
+    none_passed (placed_of c.args.running.now) Grafts c.args.at.now c.loop-at.at
+    c.pass_place.new.self c.loop-at.invariant c.requires.section c.loop-at-test.true
     (grind (arith, nat_tests, c.has_graft.ensures, c.if-not-has_graft.true)) c.pass_place.ensures

@@ -14,9 +14,12 @@ returns-in-Files-clause-passed g c =
     let at = c.args.at.now in
     let mid = c.pass_place.new.self in
     let new = c.pass_no_file.new.at in
-    let one = none_passed x c.args.section at at mid (nothing_passed x c.args.section at (omega (arith, c.requires.place))) c.requires.section c.requires.place c.requires.none c.pass_place.ensures in
+    let one = none_passed x c.args.section at at mid
+    (nothing_passed x c.args.section at (omega (arith, c.requires.place))) c.requires.section
+    c.requires.place c.requires.none c.pass_place.ensures in
     subst (λ (s : Section). IsPassed x s at new) (sym c.in-Files.is)
-    (passed_on x Files at mid new (subst (λ (s : Section). IsPassed x s at mid) c.in-Files.is one) c.pass_no_file.ensures)
+    (passed_on x Files at mid new (subst (λ (s : Section). IsPassed x s at mid) c.in-Files.is one)
+    c.pass_no_file.ensures)
 
 pub returns-in-Grafts-clause-passed : goal.returns-in-Grafts-clause-passed
 returns-in-Grafts-clause-passed g c =
@@ -24,9 +27,12 @@ returns-in-Grafts-clause-passed g c =
     let at = c.args.at.now in
     let mid = c.pass_place.new.self in
     let new = c.pass_no_graft.new.at in
-    let one = none_passed x c.args.section at at mid (nothing_passed x c.args.section at (omega (arith, c.requires.place))) c.requires.section c.requires.place c.requires.none c.pass_place.ensures in
+    let one = none_passed x c.args.section at at mid
+    (nothing_passed x c.args.section at (omega (arith, c.requires.place))) c.requires.section
+    c.requires.place c.requires.none c.pass_place.ensures in
     subst (λ (s : Section). IsPassed x s at new) (sym c.in-Grafts.is)
-    (passed_on x Grafts at mid new (subst (λ (s : Section). IsPassed x s at mid) c.in-Grafts.is one) c.pass_no_graft.ensures)
+    (passed_on x Grafts at mid new (subst (λ (s : Section). IsPassed x s at mid) c.in-Grafts.is one)
+    c.pass_no_graft.ensures)
 
 pub returns-in_default : goal.returns-in_default
 returns-in_default g c =
@@ -34,6 +40,9 @@ returns-in_default g c =
     let at = c.args.at.now in
     let mid = c.pass_place.new.self in
     record {
-      passed = none_passed x c.args.section at at mid (nothing_passed x c.args.section at (omega (arith, c.requires.place))) c.requires.section c.requires.place c.requires.none c.pass_place.ensures;
+      passed =
+          none_passed x c.args.section at at mid
+          (nothing_passed x c.args.section at (omega (arith, c.requires.place))) c.requires.section
+          c.requires.place c.requires.none c.pass_place.ensures;
       further = omega (arith, ap (λ (r : RowPlace). r.place) c.pass_place.ensures);
     }

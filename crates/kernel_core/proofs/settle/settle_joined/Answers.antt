@@ -14,12 +14,15 @@ pub settle-requires : goal.settle-requires
 settle-requires g c =
     let x = c.args.running.now in
     let y : Running g.row.C.Denot g.row.B.Denot g.row.C-Meaning.Denot _ = record x { order = c.push.new.self } in
-    sound_joined g.C.Meaning.Rules.meaning x y (g.D.Disk.seen c.args.disk.now) c.args.p (now_joined x c.args.p c.joined.result c.push.new.self c.joined.ensures c.push.ensures) c.requires
+    sound_joined g.C.Meaning.Rules.meaning x y (g.D.Disk.seen c.args.disk.now) c.args.p (now_joined
+    x c.args.p c.joined.result c.push.new.self c.joined.ensures c.push.ensures) c.requires
 
 pub returns : goal.returns
 returns g c =
+    let m = g.C.Meaning.Rules.meaning in
     let a = c.args in
     let x = a.running.now in
     let y : Running g.row.C.Denot g.row.B.Denot g.row.C-Meaning.Denot _ = record x { order = c.push.new.self } in
-    went_from g.C.Meaning.Rules.meaning (placed_settle g.C.Meaning.Rules.meaning a.turns) (joined_in a.p x) y c.settle.new.running a.trace.now.notes c.settle.new.trace.notes (g.D.Disk.seen a.disk.now) (g.D.Disk.seen c.settle.new.disk)
+    went_from m (placed_settle m a.turns) (joined_in a.p x) y c.settle.new.running a.trace.now.notes
+    c.settle.new.trace.notes (g.D.Disk.seen a.disk.now) (g.D.Disk.seen c.settle.new.disk)
     (now_joined x a.p c.joined.result c.push.new.self c.joined.ensures c.push.ensures) c.settle.ensures

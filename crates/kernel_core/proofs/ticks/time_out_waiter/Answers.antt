@@ -12,23 +12,45 @@ use Rattle.kernel_core.proofs.ticks.time_out_waiter.Goals as goal
 
 pub returns-in_default : goal.returns-in_default
 returns-in_default g c =
+    let m = g.C.Meaning.Rules.meaning in
     let a = c.args in
-    went_as g.C.Meaning.Rules.meaning (λ r. placed_waiter g.C.Meaning.Rules.meaning a.p (blocker_of a.found) (r.placed.call a.p) r) (λ r. r) a.running.now a.running.now a.trace.now.notes a.trace.now.notes (g.D.Disk.seen a.disk.now) (g.D.Disk.seen a.disk.now)
-    (waiter_none g.C.Meaning.Rules.meaning (placed_of a.running.now) a.p (blocker_of a.found) (sym c.in_default.is ∙ c.call_number.ensures)) (went_nothing g.C.Meaning.Rules.meaning a.running.now a.trace.now.notes (g.D.Disk.seen a.disk.now) c.requires.running c.requires.abstraction)
+    went_as m (λ r. placed_waiter m a.p (blocker_of a.found) (r.placed.call a.p) r)
+    (λ r. r) a.running.now a.running.now a.trace.now.notes a.trace.now.notes
+    (g.D.Disk.seen a.disk.now) (g.D.Disk.seen a.disk.now)
+    (waiter_none m (placed_of a.running.now) a.p (blocker_of a.found)
+    (sym c.in_default.is ∙ c.call_number.ensures)) (went_nothing m a.running.now
+    a.trace.now.notes (g.D.Disk.seen a.disk.now) c.requires.running c.requires.abstraction)
 
 pub refuse-requires-clause-none : goal.refuse-requires-clause-none
-refuse-requires-clause-none g c = let a = c.args in no_level ((placed_of a.running.now).levels a.p) (sym c.level_count-count.ensures.value ∙ c.if-count-eq0.true)
+refuse-requires-clause-none g c =
+    let a = c.args in
+    no_level ((placed_of a.running.now).levels a.p)
+    (sym c.level_count-count.ensures.value ∙ c.if-count-eq0.true)
 
 pub returns-then-count-eq0 : goal.returns-then-count-eq0
 returns-then-count-eq0 g c =
+    let m = g.C.Meaning.Rules.meaning in
     let a = c.args in
-    went_as g.C.Meaning.Rules.meaning (λ r. placed_waiter g.C.Meaning.Rules.meaning a.p (blocker_of a.found) (r.placed.call a.p) r) (λ r. placed_requeue a.p (placed_noted (Refused c.in-Some.number (TimedOut a.found.object a.found.holder)) (with_placed_call a.p None r))) a.running.now c.refuse.new.running a.trace.now.notes c.refuse.new.notes (g.D.Disk.seen a.disk.now) (g.D.Disk.seen a.disk.now)
-    (waiter_ends g.C.Meaning.Rules.meaning (placed_of a.running.now) a.p c.in-Some.number (blocker_of a.found) (sym c.in-Some.is ∙ c.call_number.ensures) (no_level ((placed_of a.running.now).levels a.p) (sym c.level_count-count.ensures.value ∙ c.if-count-eq0.true))) (c.refuse.ensures.went (g.D.Disk.seen a.disk.now))
+    went_as m (λ r. placed_waiter m a.p (blocker_of a.found) (r.placed.call a.p) r)
+    (λ r. placed_requeue a.p (placed_noted (Refused c.in-Some.number (TimedOut a.found.object
+    a.found.holder)) (with_placed_call a.p None r))) a.running.now c.refuse.new.running
+    a.trace.now.notes c.refuse.new.notes (g.D.Disk.seen a.disk.now) (g.D.Disk.seen a.disk.now)
+    (waiter_ends m (placed_of a.running.now) a.p c.in-Some.number (blocker_of a.found)
+    (sym c.in-Some.is ∙ c.call_number.ensures) (no_level ((placed_of a.running.now).levels a.p)
+    (sym c.level_count-count.ensures.value ∙ c.if-count-eq0.true)))
+    (c.refuse.ensures.went (g.D.Disk.seen a.disk.now))
 
 pub returns : goal.returns
 returns g c =
+    let m = g.C.Meaning.Rules.meaning in
     let a = c.args in
     let k = c.level_count-count.result - 1 in
-    let many : length ((placed_of a.running.now).levels a.p) ≡ suc k = let e = c.level_count-count.ensures.value in omega (arith, e, c.if-count-eq0.false) in
-    went_as g.C.Meaning.Rules.meaning (λ r. placed_waiter g.C.Meaning.Rules.meaning a.p (blocker_of a.found) (r.placed.call a.p) r) (placed_drop g.C.Meaning.Rules.meaning a.p k (TimeOut a.found.object a.found.holder)) a.running.now c.drop_level.new.running a.trace.now.notes c.drop_level.new.trace.notes (g.D.Disk.seen a.disk.now) (g.D.Disk.seen c.drop_level.new.disk)
-    (waiter_drops g.C.Meaning.Rules.meaning (placed_of a.running.now) a.p c.in-Some.number k (blocker_of a.found) (sym c.in-Some.is ∙ c.call_number.ensures) many) c.drop_level.ensures
+    let many : length ((placed_of a.running.now).levels a.p) ≡ suc k = let e =
+    c.level_count-count.ensures.value in
+    omega (arith, e, c.if-count-eq0.false) in
+    went_as m (λ r. placed_waiter m a.p (blocker_of a.found) (r.placed.call a.p) r)
+    (placed_drop m a.p k (TimeOut a.found.object a.found.holder)) a.running.now
+    c.drop_level.new.running a.trace.now.notes c.drop_level.new.trace.notes
+    (g.D.Disk.seen a.disk.now) (g.D.Disk.seen c.drop_level.new.disk)
+    (waiter_drops m (placed_of a.running.now) a.p c.in-Some.number k (blocker_of a.found)
+    (sym c.in-Some.is ∙ c.call_number.ensures) many) c.drop_level.ensures

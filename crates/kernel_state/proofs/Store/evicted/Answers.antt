@@ -17,8 +17,12 @@ pub returns : goal.returns
 returns g c =
     let s = c.args.self.now in
     record {
-      value = candidate_is s.cache s.ram s.cache.order c.args.rows.now c.args.rows.now (policies_of s 1) (policies_of s 1) c.victim.result c.lru.ensures.sound c.requires refl refl
+      value =
+          candidate_is s.cache s.ram s.cache.order c.args.rows.now c.args.rows.now (policies_of s 1)
+          (policies_of s 1) c.victim.result c.lru.ensures.sound c.requires refl refl
           c.victim.ensures.candidate;
-      in_cache = evicted_used s.cache c.victim.result s.cache.order c.args.rows.now c.args.rows.now c.lru.ensures.sound c.requires refl c.victim.ensures.stands;
+      in_cache =
+          evicted_used s.cache c.victim.result s.cache.order c.args.rows.now c.args.rows.now
+          c.lru.ensures.sound c.requires refl c.victim.ensures.stands;
       none = tt;
     }

@@ -1,6 +1,6 @@
 use Rattle.std.proofs.Common.{◌≡◌, length, ap, refl, arith}
 use Rattle.std.proofs.lemmas.Grind.{common_steps}
-use Rattle.kernel_model.specs.Objects.{CacheValue}
+use Rattle.kernel_data.specs.Objects.{CacheValue}
 use Rattle.buffer_cache.specs.Frames.{Frames}
 use Rattle.kernel_state.specs.CacheViews.{cache_value}
 use Rattle.kernel_state.specs.Stores.{world_of_store, cache_of}
@@ -11,7 +11,8 @@ use Rattle.kernel_state.proofs.Store.fill.Goals as goal
 
 pub fill-requires-clause-no_other : goal.fill-requires-clause-no_other
 fill-requires-clause-no_other g c =
-    λ g does. none_holds c.args.self.now.cache c.args.self.now.ram c.args.block c.args.f g c.lru.ensures.sound c.requires.missing does
+    λ g does. none_holds c.args.self.now.cache c.args.self.now.ram c.args.block c.args.f g
+    c.lru.ensures.sound c.requires.missing does
 
 pub returns-clause-changed : goal.returns-clause-changed
 returns-clause-changed g c =
@@ -20,7 +21,9 @@ returns-clause-changed g c =
     record {
       objects =
           stands_so s c.fill.new.self c.fill.new.ram _
-          (filled_is s.cache c.fill.new.self s.ram c.fill.new.ram c.args.bytes.now c.args.f c.args.owner c.args.block c.lru.ensures.sound c.whole.ensures c.requires.frame long c.fill.ensures.cache
+          (filled_is s.cache c.fill.new.self s.ram c.fill.new.ram c.args.bytes.now c.args.f
+          c.args.owner c.args.block c.lru.ensures.sound c.whole.ensures c.requires.frame long
+          c.fill.ensures.cache
           c.fill.ensures.memory);
       world = refl;
       memory = grind (arith, common_steps);
@@ -30,7 +33,12 @@ pub invariant_of-self-clause-fits : goal.invariant_of-self-clause-fits
 invariant_of-self-clause-fits g c =
     let s = c.args.self.now in
     let long : length c.args.bytes.now ≡ 512 = omega arith in
-    let is = filled_is s.cache c.fill.new.self s.ram c.fill.new.ram c.args.bytes.now c.args.f c.args.owner c.args.block c.lru.ensures.sound c.whole.ensures c.requires.frame long c.fill.ensures.cache
+    let is = filled_is s.cache c.fill.new.self s.ram c.fill.new.ram c.args.bytes.now c.args.f
+    c.args.owner c.args.block c.lru.ensures.sound c.whole.ensures c.requires.frame long
+    c.fill.ensures.cache
     c.fill.ensures.memory in
-    fits_frames s.cache.count c.fill.new.self.count (world_of_store s) _ _ c.args.self.now.fits (ap (λ (w : Frames). w.count) c.fill.ensures.cache) refl
-    (blocks_filled s.size c.args.f c.args.owner c.args.block c.args.bytes.now (cache_of s) (cache_value c.fill.new.self c.fill.new.ram) c.args.self.now.fits.blocks c.requires.block (ap (λ (w : CacheValue). w.frame) is))
+    fits_frames s.cache.count c.fill.new.self.count (world_of_store s) _ _ c.args.self.now.fits
+    (ap (λ (w : Frames). w.count) c.fill.ensures.cache) refl
+    (blocks_filled s.size c.args.f c.args.owner c.args.block c.args.bytes.now (cache_of s)
+    (cache_value c.fill.new.self c.fill.new.ram) c.args.self.now.fits.blocks c.requires.block
+    (ap (λ (w : CacheValue). w.frame) is))

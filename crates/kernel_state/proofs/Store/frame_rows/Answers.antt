@@ -9,4 +9,6 @@ pub returns-clause-shown : goal.returns-clause-shown
 returns-clause-shown g c =
     let s = c.args.self.now in
     rows_shown s.cache s.ram (objects_of s) s.cache.order c.loop-f.rows c.lru-f-items.ensures.sound (λ f. refl)
-    (c.loop-f.invariant ∙ ap (λ (xs : List ℕ). map (row_at s.cache.rows) xs) ((take_all c.loop-f.f-index c.lru-f-items.result.now c.loop-f-test.false) ∙ c.lru-f-items.ensures.value))
+    (c.loop-f.invariant ∙ ap (λ (xs : List ℕ). map (row_at s.cache.rows) xs)
+    ((take_all c.loop-f.f-index c.lru-f-items.result.now c.loop-f-test.false)
+    ∙ c.lru-f-items.ensures.value))

@@ -1,6 +1,6 @@
 -- The rows so far are those of the first frames in the order of use.
 use Rattle.std.proofs.Common.{◌≡◌, map, take, Some}
-use Rattle.kernel_model.specs.declared.FrameRow.{FrameRow}
+use Rattle.kernel_data.specs.declared.FrameRow.{FrameRow}
 use Rattle.buffer_cache.specs.Frames.{row_at}
 use Rattle.kernel_state.proofs.Store.frame_rows.Given as goal
 

@@ -7,9 +7,12 @@ use Rattle.kernel_state.proofs.Store.new.Goals as goal
 
 pub invariant_of-result-clause-fits : goal.invariant_of-result-clause-fits
 invariant_of-result-clause-fits g c =
-    fits_new (world_for c.args.setup c.args.size c.args.dir) _ c.new-3.result c.new.result c.args.ram c.new-3.ensures c.new.ensures refl refl c.requires.boot.size_least c.requires.boot.size_most c.requires.boot.files
+    fits_new (world_for c.args.setup c.args.size c.args.dir) _ c.new-3.result c.new.result
+    c.args.ram c.new-3.ensures c.new.ensures refl refl c.requires.boot.size_least
+    c.requires.boot.size_most c.requires.boot.files
 
 pub returns-clause-objects : goal.returns-clause-objects
 returns-clause-objects g c =
-    opens_with _ _ c.new-3.result c.args.ram _ c.args.kept c.args.setup.frames c.args.setup.grant 256 c.new-2.ensures.value c.new.ensures c.new-3.ensures
+    opens_with _ _ c.new-3.result c.args.ram _ c.args.kept c.args.setup.frames c.args.setup.grant
+    256 c.new-2.ensures.value c.new.ensures c.new-3.ensures
     (ap (λ (choice : List ℕ). pol_of c.args.shelf choice) c.new-4.ensures ∙ c.requires.stock) c.requires.room

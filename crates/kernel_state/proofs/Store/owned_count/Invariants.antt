@@ -1,6 +1,6 @@
 -- The frames of the process so far are those of the first frames in the order of use.
 use Rattle.std.proofs.Common.{◌≡◌, ◌≤◌, length, take, filter}
-use Rattle.kernel_model.specs.Policies.{is_owned}
+use Rattle.kernel_data.specs.Policies.{is_owned}
 use Rattle.kernel_state.specs.Stores.{cache_of}
 use Rattle.kernel_state.proofs.Store.owned_count.Given as goal
 

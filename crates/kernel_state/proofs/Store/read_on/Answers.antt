@@ -8,6 +8,8 @@ pub invariant_of-self-clause-fits : goal.invariant_of-self-clause-fits
 invariant_of-self-clause-fits g c =
     let s = c.args.self.now in
     let row = (objects_of s).things.file c.args.p c.args.fd in
-    fits_file s.cache.count (world_of_store s) (objects_of s) _ c.args.p c.args.fd (option_map (read_on c.args.i) row) s.fits
-    (changed_sound (world_of_store s) (read_on c.args.i) row (λ o found. read_on_sound (world_of_store s) c.args.i o (s.fits.files c.args.p c.args.fd o found)))
+    fits_file s.cache.count (world_of_store s) (objects_of s) _ c.args.p c.args.fd
+    (option_map (read_on c.args.i) row) s.fits
+    (changed_sound (world_of_store s) (read_on c.args.i) row (λ o found. read_on_sound
+    (world_of_store s) c.args.i o (s.fits.files c.args.p c.args.fd o found)))
     (stands_by s c.read_on.new.self _ c.read_on.ensures)

@@ -7,4 +7,5 @@ use Rattle.kernel_state.proofs.Store.set_holder.Goals as goal
 pub invariant_of-self-clause-fits : goal.invariant_of-self-clause-fits
 invariant_of-self-clause-fits g c =
     let s = c.args.self.now in
-    fits_same s.cache.count (world_of_store s) _ _ c.args.self.now.fits (ap (λ (x : Processes). x.file) c.set_holder.ensures) refl
+    fits_same s.cache.count (world_of_store s) _ _ c.args.self.now.fits
+    (ap (λ (x : Processes). x.file) c.set_holder.ensures) refl

@@ -1,5 +1,5 @@
 use Rattle.std.proofs.Common.{ap, refl, ◌∙◌}
-use Rattle.kernel_model.specs.Policies.{lives}
+use Rattle.kernel_data.specs.Policies.{lives}
 use Rattle.process_table.specs.Processes.{Processes}
 use Rattle.kernel_state.specs.Stores.{world_of_store}
 use Rattle.kernel_state.proofs.Fits.{fits_same, stands_by}
@@ -12,7 +12,9 @@ returns g c =
     record {
       objects = stands_by s c.set_nice.new.self _ c.set_nice.ensures;
       queue = ap (λ (x : Processes). x.queue) c.set_nice.ensures;
-      living = λ p. ap (λ (x : Processes). lives x.queue p) c.set_nice.ensures ∙ lives_nice c.args.q c.args.v p s.procs.queue;
+      living =
+          λ p. ap (λ (x : Processes). lives x.queue p) c.set_nice.ensures
+          ∙ lives_nice c.args.q c.args.v p s.procs.queue;
       views = refl;
       world = refl;
       memory = refl;
@@ -21,4 +23,5 @@ returns g c =
 pub invariant_of-self-clause-fits : goal.invariant_of-self-clause-fits
 invariant_of-self-clause-fits g c =
     let s = c.args.self.now in
-    fits_same s.cache.count (world_of_store s) _ _ c.args.self.now.fits (ap (λ (x : Processes). x.file) c.set_nice.ensures) refl
+    fits_same s.cache.count (world_of_store s) _ _ c.args.self.now.fits
+    (ap (λ (x : Processes). x.file) c.set_nice.ensures) refl

@@ -1,5 +1,5 @@
 use Rattle.std.proofs.Common.{◌∙◌, ap, refl}
-use Rattle.kernel_model.specs.Policies.{lives}
+use Rattle.kernel_data.specs.Policies.{lives}
 use Rattle.process_table.specs.Processes.{Processes}
 use Rattle.kernel_state.specs.Stores.{world_of_store}
 use Rattle.kernel_state.proofs.Queues.{lives_back}
@@ -21,4 +21,5 @@ returns g c =
 pub invariant_of-self-clause-fits : goal.invariant_of-self-clause-fits
 invariant_of-self-clause-fits g c =
     let s = c.args.self.now in
-    fits_same s.cache.count (world_of_store s) _ _ c.args.self.now.fits (ap (λ (x : Processes). x.file) c.to_back.ensures) refl
+    fits_same s.cache.count (world_of_store s) _ _ c.args.self.now.fits
+    (ap (λ (x : Processes). x.file) c.to_back.ensures) refl

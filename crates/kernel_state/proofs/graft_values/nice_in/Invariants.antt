@@ -1,5 +1,5 @@
 use Rattle.std.proofs.Common.{◌≡◌, drop}
-use Rattle.kernel_model.specs.Policies.{nice_of}
+use Rattle.kernel_data.specs.Policies.{nice_of}
 use Rattle.kernel_state.proofs.graft_values.nice_in.Given as goal
 
 abbrev pub invariant-loop-row : goal.invariant-loop-row

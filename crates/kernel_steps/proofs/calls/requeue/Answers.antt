@@ -10,7 +10,8 @@ pub to_end-requires : goal.to_end-requires
 to_end-requires g c =
     let x = c.args.running.now in
     let r = c.requires.running in
-    room_for c.args.p (filter (λ (w : Waiting). not (w.process == c.args.p)) x.order) c.requires.process (processes_less c.args.p x.order r.order)
+    room_for c.args.p (filter (λ (w : Waiting). not (w.process == c.args.p)) x.order)
+    c.requires.process (processes_less c.args.p x.order r.order)
     (once_less c.args.p x.order r.once) (has_left c.args.p x.order)
 
 pub returns-then-waits : goal.returns-then-waits
@@ -24,7 +25,8 @@ returns-then-waits g c =
     record {
       value = λ notes blocks io.
           requeued x p c.is_at_piece-waits.result new c.is_at_piece-waits.ensures
-          (joined_order p x.order left new (joined p) c.is_at_piece-waits.result (grind (arith, c.if-waits.true)) refl refl is) notes blocks io;
+          (joined_order p x.order left new (joined p) c.is_at_piece-waits.result
+          (grind (arith, c.if-waits.true)) refl refl is) notes blocks io;
       running =
           record {
             sixteen = r.sixteen;
@@ -32,7 +34,9 @@ returns-then-waits g c =
             placed = r.placed;
             inside = r.inside;
             counts = counts_joined x.clock p left (joined p) new refl is (counts_less x.clock p x.order r.counts);
-            order = processes_joined p left (joined p) new refl is c.requires.process (processes_less p x.order r.order);
+            order =
+                processes_joined p left (joined p) new refl is c.requires.process
+                (processes_less p x.order r.order);
             once = once_joined p left (joined p) new refl is (once_less p x.order r.once) (has_left p x.order);
             loaded = r.loaded;
             owner = r.owner;
@@ -47,7 +51,8 @@ returns g c =
     record {
       value = λ notes blocks io.
           requeued x c.args.p c.is_at_piece-waits.result c.leave.new.self c.is_at_piece-waits.ensures
-          (left_order c.args.p x.order c.leave.new.self c.is_at_piece-waits.result (grind (arith, c.if-waits.false)) c.leave.ensures) notes blocks io;
+          (left_order c.args.p x.order c.leave.new.self c.is_at_piece-waits.result
+          (grind (arith, c.if-waits.false)) c.leave.ensures) notes blocks io;
       running =
           record {
             sixteen = r.sixteen;

@@ -13,8 +13,10 @@ returns g c =
       value =
           let x = c.args.running.now in
           let next : x.clock + 1 ≡ suc x.clock = omega arith in (
-            λ notes blocks io. ticked_on x c.args.number (x.clock + 1) c.count_up.new.self notes (notes ++ Ticked c.args.number (suc x.clock) ∷ [])
-                next c.requires.running.counts c.requires.clock c.count_up.ensures (ap (λ n. notes ++ Ticked c.args.number n ∷ []) (sym next)) blocks io,
+            λ notes blocks io. ticked_on x c.args.number (x.clock + 1) c.count_up.new.self notes
+                (notes ++ Ticked c.args.number (suc x.clock) ∷ [])
+                next c.requires.running.counts c.requires.clock c.count_up.ensures
+                (ap (λ n. notes ++ Ticked c.args.number n ∷ []) (sym next)) blocks io,
             subst (λ n. Adds (Ticked c.args.number n ∷ []) c.args.notes.now c.push.new.self) next c.push.ensures,
           );
       running =

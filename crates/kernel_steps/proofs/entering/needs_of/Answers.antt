@@ -1,6 +1,6 @@
 use Rattle.std.proofs.Common.{◌∙◌, ap, sym}
 use Rattle.std.specs.Prelude.{option_copied}
-use Rattle.kernel_state.specs.Stores.{world_of_store, objects_of}
+use Rattle.call_pieces.specs.Stores.{world_of_store, objects_of}
 use Rattle.call_pieces.specs.Works.{stage_of}
 use Rattle.running_kernel.proofs.HinderLemmas.{all_of}
 use Rattle.kernel_steps.proofs.entering.needs_of.Goals as goal

@@ -1,4 +1,4 @@
-use Rattle.kernel_model.specs.Instructions.{fits}
+use Rattle.script_model.specs.Instructions.{fits}
 use Rattle.lab_levels.proofs.Fitting.{one_passes}
 use Rattle.lab_levels.proofs.code.append_text.Goals as goal
 

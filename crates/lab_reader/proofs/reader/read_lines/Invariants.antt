@@ -1,5 +1,5 @@
 use Rattle.std.proofs.Common.{◌≡◌, ◌+◌, ◌≤◌, length}
-use Rattle.kernel_model.specs.Assembler.{lines_of}
+use Rattle.script_model.specs.Assembler.{lines_of}
 use Rattle.lab_reader.specs.Lab.{with_lines, first_lab}
 use Rattle.lab_reader.proofs.reader.read_lines.Given as goal
 

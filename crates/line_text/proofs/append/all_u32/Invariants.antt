@@ -1,5 +1,5 @@
 use Rattle.std.proofs.Common.{◌≡◌, ◌≤◌, ◌+◌, ◌*◌, ◌++◌, take}
-use Rattle.kernel_model.specs.Text.{all_spaced}
+use Rattle.script_model.specs.Text.{all_spaced}
 use Rattle.line_text.proofs.append.all_u32.Given as goal
 
 abbrev pub invariant-loop-n : goal.invariant-loop-n

@@ -13,28 +13,35 @@ pub put_digits-requires-then-n-lt100-clause-count : goal.put_digits-requires-the
 put_digits-requires-then-n-lt100-clause-count c = sym (two_digits c.args.n c.if-n-lt10.false c.if-n-lt100.true)
 
 pub put_digits-requires-then-n-lt100-clause-room : goal.put_digits-requires-then-n-lt100-clause-room
-put_digits-requires-then-n-lt100-clause-room c = omega (arith, c.requires, two_digits c.args.n c.if-n-lt10.false c.if-n-lt100.true)
+put_digits-requires-then-n-lt100-clause-room c =
+    omega (arith, c.requires, two_digits c.args.n c.if-n-lt10.false c.if-n-lt100.true)
 
 pub put_digits-requires-then-n-lt1000-clause-count : goal.put_digits-requires-then-n-lt1000-clause-count
 put_digits-requires-then-n-lt1000-clause-count c = sym (three_digits c.args.n c.if-n-lt100.false c.if-n-lt1000.true)
 
 pub put_digits-requires-then-n-lt1000-clause-room : goal.put_digits-requires-then-n-lt1000-clause-room
-put_digits-requires-then-n-lt1000-clause-room c = omega (arith, c.requires, three_digits c.args.n c.if-n-lt100.false c.if-n-lt1000.true)
+put_digits-requires-then-n-lt1000-clause-room c =
+    omega (arith, c.requires, three_digits c.args.n c.if-n-lt100.false c.if-n-lt1000.true)
 
 pub put_digits-requires-then-n-lt10000-clause-count : goal.put_digits-requires-then-n-lt10000-clause-count
 put_digits-requires-then-n-lt10000-clause-count c = sym (four_digits c.args.n c.if-n-lt1000.false c.if-n-lt10000.true)
 
 pub put_digits-requires-then-n-lt10000-clause-room : goal.put_digits-requires-then-n-lt10000-clause-room
-put_digits-requires-then-n-lt10000-clause-room c = omega (arith, c.requires, four_digits c.args.n c.if-n-lt1000.false c.if-n-lt10000.true)
+put_digits-requires-then-n-lt10000-clause-room c =
+    omega (arith, c.requires, four_digits c.args.n c.if-n-lt1000.false c.if-n-lt10000.true)
 
 pub put_digits-requires-then-n-lt100000-clause-count : goal.put_digits-requires-then-n-lt100000-clause-count
-put_digits-requires-then-n-lt100000-clause-count c = sym (five_digits c.args.n c.if-n-lt10000.false c.if-n-lt100000.true)
+put_digits-requires-then-n-lt100000-clause-count c =
+    sym (five_digits c.args.n c.if-n-lt10000.false c.if-n-lt100000.true)
 
 pub put_digits-requires-then-n-lt100000-clause-room : goal.put_digits-requires-then-n-lt100000-clause-room
-put_digits-requires-then-n-lt100000-clause-room c = omega (arith, c.requires, five_digits c.args.n c.if-n-lt10000.false c.if-n-lt100000.true)
+put_digits-requires-then-n-lt100000-clause-room c =
+    omega (arith, c.requires, five_digits c.args.n c.if-n-lt10000.false c.if-n-lt100000.true)
 
 pub put_digits-requires-then-n-lt1000000-clause-count : goal.put_digits-requires-then-n-lt1000000-clause-count
-put_digits-requires-then-n-lt1000000-clause-count c = sym (six_digits c.args.n c.if-n-lt100000.false c.if-n-lt1000000.true)
+put_digits-requires-then-n-lt1000000-clause-count c =
+    sym (six_digits c.args.n c.if-n-lt100000.false c.if-n-lt1000000.true)
 
 pub put_digits-requires-then-n-lt1000000-clause-room : goal.put_digits-requires-then-n-lt1000000-clause-room
-put_digits-requires-then-n-lt1000000-clause-room c = omega (arith, c.requires, six_digits c.args.n c.if-n-lt100000.false c.if-n-lt1000000.true)
+put_digits-requires-then-n-lt1000000-clause-room c =
+    omega (arith, c.requires, six_digits c.args.n c.if-n-lt100000.false c.if-n-lt1000000.true)

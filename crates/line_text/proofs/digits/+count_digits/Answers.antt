@@ -6,7 +6,12 @@ use Rattle.line_text.proofs.digits.+count_digits.Goals as goal
 pub overflow_add-result : goal.overflow_add-result
 overflow_add-result t c =
     let small : c.args.n / 10000 < 2 ^ 64 = omega (arith, c.ranges.n.fits) in
-    omega (arith, c.count_digits.ensures, length-decimal-le 20 (c.args.n / 10000) (omega arith) (omega (arith, small)) small)
+    omega (
+      arith,
+      c.count_digits.ensures,
+      length-decimal-le 20 (c.args.n / 10000) (omega arith)
+          (omega (arith, small)) small,
+    )
 
 pub returns : goal.returns
 returns t c =

@@ -1,5 +1,5 @@
 use Rattle.std.proofs.Common.{◌≡◌, ◌≤◌, ◌+◌, ◌*◌, ◌++◌, take, flat_map}
-use Rattle.kernel_model.specs.Text.{queue_text}
+use Rattle.script_model.specs.Text.{queue_text}
 use Rattle.line_text.proofs.rows.queue_rows.Given as goal
 
 abbrev pub invariant-loop-r : goal.invariant-loop-r

@@ -1,5 +1,5 @@
 use Rattle.std.proofs.Common.{◌≡◌, drop}
-use Rattle.kernel_model.specs.World.{entry_named}
+use Rattle.kernel_data.specs.World.{entry_named}
 use Rattle.mem_disk.proofs.directory.find_entry.Given as goal
 
 abbrev pub invariant-loop-i : goal.invariant-loop-i

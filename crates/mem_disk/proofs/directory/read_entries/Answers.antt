@@ -10,5 +10,7 @@ pub loop-i-preserved : goal.loop-i-preserved
 loop-i-preserved c = record {
   value = grind (arith, common_steps, entries_more);
   count = grind (arith, common_steps);
-  files = files-push c.args.size c.loop-i.rows.items c.push.new.self.items c.read_entry-next.result c.loop-i.invariant.files c.read_entry-next.ensures.files c.push.ensures.items;
+  files =
+      files-push c.args.size c.loop-i.rows.items c.push.new.self.items c.read_entry-next.result
+      c.loop-i.invariant.files c.read_entry-next.ensures.files c.push.ensures.items;
 }

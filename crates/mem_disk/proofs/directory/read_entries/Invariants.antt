@@ -1,6 +1,6 @@
-use Rattle.kernel_model.specs.declared.FileRow.{FileRow}
+use Rattle.kernel_data.specs.declared.FileRow.{FileRow}
 use Rattle.std.proofs.Common.{◌≡◌, ℕ, length, get_or, None, Some, true}
-use Rattle.kernel_model.specs.Directory.{entries, lies_on_disk}
+use Rattle.kernel_data.specs.Directory.{entries, lies_on_disk}
 use Rattle.mem_disk.proofs.directory.read_entries.Given as goal
 
 abbrev pub invariant-loop-i : goal.invariant-loop-i

@@ -1,5 +1,5 @@
 use Rattle.std.proofs.Common.{◌≡◌, ℕ, ◌<◌, get_or}
-use Rattle.kernel_model.specs.Directory.{sample_byte}
+use Rattle.kernel_data.specs.Directory.{sample_byte}
 use Rattle.mem_disk.proofs.sample.fill_block.Given as goal
 
 abbrev pub invariant-loop-i : goal.invariant-loop-i

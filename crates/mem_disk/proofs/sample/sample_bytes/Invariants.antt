@@ -1,6 +1,6 @@
 use Rattle.std.proofs.Common.{◌≡◌, ◌*◌, length, map}
 use Rattle.std.specs.List.{range_with_len}
-use Rattle.kernel_model.specs.Directory.{sample_block}
+use Rattle.kernel_data.specs.Directory.{sample_block}
 use Rattle.mem_disk.specs.DiskState.{blocks_in}
 use Rattle.mem_disk.proofs.sample.sample_bytes.Given as goal
 

@@ -8,5 +8,6 @@ pub returns-clause-rows : goal.returns-clause-rows
 returns-clause-rows c = λ row is.
     let a = c.args.at in
     let rows = c.args.rows.now in
-    let turned = put_mid-rotated a (length rows - a) rows c.rotate_left.new.self row (omega arith) (omega arith) c.rotate_left.ensures.after in
+    let turned = put_mid-rotated a (length rows - a) rows c.rotate_left.new.self row (omega arith)
+    (omega arith) c.rotate_left.ensures.after in
     grind (arith, nat_tests, common_steps, turned)

@@ -5,4 +5,5 @@ use Rattle.process_table.proofs.arrays.put_nice.Goals as goal
 
 pub loop-row-preserved : goal.loop-row-preserved
 loop-row-preserved c =
-    map_step (λ (r : QueueRow). cond (r.process == c.args.p) (record r { nice = c.args.v }) r) _ _ _ _ _ (omega arith) c.loop-row.invariant c.row_with_nice.ensures
+    map_step (λ (r : QueueRow). cond (r.process == c.args.p) (record r { nice = c.args.v }) r) _ _ _
+    _ _ (omega arith) c.loop-row.invariant c.row_with_nice.ensures

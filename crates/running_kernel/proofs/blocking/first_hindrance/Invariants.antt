@@ -1,4 +1,4 @@
-use Rattle.kernel_state.specs.Stores.{objects_of}
+use Rattle.call_pieces.specs.Stores.{objects_of}
 use Rattle.lock_table.specs.Masks.{held}
 use Rattle.running_kernel.proofs.HinderLemmas.{HasPassed}
 use Rattle.running_kernel.proofs.blocking.first_hindrance.Given as goal

@@ -4,4 +4,11 @@ use Rattle.running_kernel.proofs.ShownLemmas.{top_is}
 use Rattle.running_kernel.proofs.shown.top_row.Goals as goal
 
 pub returns : goal.returns
-returns c = λ p ram t log w. grind (arith, top_is p ram t c.args.levels.now log w, c.count.ensures.value, c.innermost.ensures, c.in_ok-level.was)
+returns c =
+    λ p ram t log w. grind (
+      arith,
+      top_is p ram t c.args.levels.now log w,
+      c.count.ensures.value,
+      c.innermost.ensures,
+      c.in_ok-level.was,
+    )

@@ -10,5 +10,8 @@ loop-i-preserved c =
     record {
       long = l.long;
       inside = omega (arith, c.loop-i-test.true);
-      rest = goes_on-step c.args.ending.now c.args.rest.now i c.loop-i-test.true (omega (arith, c.loop-i-test.true, l.long)) c.requires (grind (arith, nat_tests, c.if-ending-i.false)) ∙ l.rest;
+      rest =
+          goes_on-step c.args.ending.now c.args.rest.now i c.loop-i-test.true
+          (omega (arith, c.loop-i-test.true, l.long)) c.requires
+          (grind (arith, nat_tests, c.if-ending-i.false)) ∙ l.rest;
     }

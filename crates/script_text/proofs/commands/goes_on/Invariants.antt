@@ -1,6 +1,6 @@
 -- The bytes before the place are the same: what those from it on answer, all answer.
 use Rattle.std.proofs.Common.{◌≡◌, ◌≤◌, length, drop}
-use Rattle.kernel_model.specs.World.{same_bytes}
+use Rattle.script_model.specs.World.{same_bytes}
 use Rattle.script_text.specs.Words.{front_word}
 use Rattle.script_text.proofs.commands.goes_on.Given as goal
 

@@ -1,6 +1,6 @@
 use Rattle.std.proofs.Common.{◌≡◌, ◌<◌, ◌≤◌, ◌^◌, ◌-◌, true, take}
 use Rattle.std.specs.List.{list_all}
-use Rattle.kernel_model.specs.Bytes.{digits_value, is_digit}
+use Rattle.script_model.specs.Bytes.{digits_value, is_digit}
 use Rattle.script_text.proofs.digits.longer_number.Given as goal
 
 abbrev pub invariant-loop-size : goal.invariant-loop-size

@@ -4,9 +4,9 @@ use Rattle.kernel_model.specs.Laws.{IsRightAnswer}
 use Rattle.kernel_model.specs.Needs.{file_block}
 use Rattle.kernel_model.specs.FilePieces.{write_piece}
 use Rattle.kernel_model.specs.StreamPoints.{through}
-use Rattle.disk_log.specs.Joined.{made_alone, extends_none}
-use Rattle.kernel_state.specs.Stores.{world_of_store, objects_of}
-use Rattle.call_needs.specs.Works.{answer_seen, call_of, stage_of}
+use Rattle.call_pieces.specs.Joined.{made_alone, extends_none}
+use Rattle.call_pieces.specs.Stores.{world_of_store, objects_of}
+use Rattle.call_pieces.specs.Works.{answer_seen, call_of, stage_of}
 use Rattle.call_pieces.specs.Matching.{comes_after, PieceMatches}
 use Rattle.call_pieces.proofs.LeftLaws.{some_as, some_quick}
 use Rattle.stream_points.proofs.GraftCalls.{graft_call, no_more, plain_due, same_ask, same_piece}
@@ -41,7 +41,7 @@ returns-in-StreamRead-2-clause-some g c =
     some_quick (world_of_store s) _ (objects_of s) _ _ c.args.log.now c.requires.fresh
     (λ blocks known io tells.
     came_as _ _ (objects_of s) known _ (Some (through seen w.carried.items)) _ 0
-    (second_read w x.field-0 x.field-1 x.field-2 x.field-3 (world_of_store s) (objects_of s) blocks
+    (second_read w x.descriptor x.block x.offset x.length (world_of_store s) (objects_of s) blocks
     seen io x.is c.if-work-eq0.false)
     (c.give_out.ensures
     ∙ ap (λ (bytes : List ℕ). Some (through seen bytes)) c.as_slice.ensures.value)

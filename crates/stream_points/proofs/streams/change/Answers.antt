@@ -1,8 +1,8 @@
 use Rattle.std.proofs.Common.{◌≡◌, ℕ, List, length, ap, ◌∙◌, arith}
 use Rattle.kernel_model.specs.StreamPoints.{through}
-use Rattle.kernel_state.specs.Stores.{objects_of}
-use Rattle.call_needs.specs.Needing.{block_meant}
-use Rattle.call_needs.specs.Works.{answer_seen}
+use Rattle.call_pieces.specs.Stores.{objects_of}
+use Rattle.call_pieces.specs.Needing.{block_meant}
+use Rattle.call_pieces.specs.Works.{answer_seen}
 use Rattle.stream_points.proofs.Continuing.{out_length, write_continues}
 use Rattle.stream_points.proofs.streams.change.Goals as goal
 

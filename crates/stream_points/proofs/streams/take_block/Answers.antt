@@ -1,12 +1,13 @@
-use Rattle.std.proofs.Common.{rules, ◌≡◌, ◌+◌, ◌++◌, ℕ, List, Option, None, Result, Ok, length, slice_range, sym, ap, subst, ◌∙◌}
+use Rattle.std.proofs.Common.{rules, ◌≡◌, ◌+◌, ◌++◌, ℕ, List, Option, None, Result, Ok, length}
+use Rattle.std.proofs.Common.{slice_range, sym, ap, subst, ◌∙◌}
 use Rattle.kernel_model.specs.declared.Refusal.{Refusal}
 use Rattle.kernel_model.specs.Fetch.{bytes_of}
 use Rattle.kernel_model.specs.StreamPoints.{stream_fetches}
-use Rattle.kernel_state.specs.Stores.{world_of_store, objects_of, cache_of, queue_of}
-use Rattle.call_needs.specs.declared.Work.{Work}
-use Rattle.call_needs.specs.Needing.{block_meant}
-use Rattle.call_needs.specs.Fetching.{FetchLeft, FetchMatches, fetch_of, moment}
-use Rattle.call_needs.specs.Works.{call_of, answer_seen, registers_seen, stage_of}
+use Rattle.call_pieces.specs.Stores.{world_of_store, objects_of, cache_of, queue_of}
+use Rattle.call_pieces.specs.declared.Work.{Work}
+use Rattle.call_pieces.specs.Needing.{block_meant}
+use Rattle.call_pieces.specs.Fetching.{FetchLeft, FetchMatches, fetch_of, store_moment}
+use Rattle.call_pieces.specs.Works.{call_of, answer_seen, registers_seen, stage_of}
 use Rattle.call_pieces.specs.declared.Next.TheVariants.{Goes}
 use Rattle.call_pieces.specs.Shared.{ServesWithQueue}
 use Rattle.call_pieces.proofs.ServesLaws.{serves_refused}
@@ -48,8 +49,8 @@ returns-in-Ok-fetch-clause-done g c =
     subst (λ (x : Result ℕ Refusal). ServesWithQueue (λ blocks io. stream_fetches x (call_of w)
     (world_of_store s) (objects_of s) blocks r.p r.off r.len
     (answer_seen s.ram r.p r.answer) io) (queue_of s)
-    (moment s (g.D.Disk.seen c.args.disk.now) c.args.log.now)
-    (moment c.fetch.new.store (g.D.Disk.seen c.fetch.new.disk) c.fetch.new.log) None Goes t) block
+    (store_moment s (g.D.Disk.seen c.args.disk.now) c.args.log.now)
+    (store_moment c.fetch.new.store (g.D.Disk.seen c.fetch.new.disk) c.fetch.new.log) None Goes t) block
     (record {
       does = λ blocks rest tells.
           take_came (call_of w) (objects_of s) (objects_of c.fetch.new.store) blocks r.off r.len f

@@ -9,13 +9,16 @@ pub returns-clause-value : goal.returns-clause-value
 returns-clause-value c =
     c.as_slice.ensures.value
     ∙ sym (inverses-logged 0 c.self.inside.records.items c.self.inside.kept)
-    ∙ ap (map (λ (r : Logged). r.inverse)) (sym (records-log c.self.inside.marks.items (logged_in c.self.inside.records.items c.self.inside.kept) c.args.self.now c.self.invariant.0 c.self.view_is))
+    ∙ ap (map (λ (r : Logged). r.inverse))
+    (sym (records-log c.self.inside.marks.items (logged_in c.self.inside.records.items
+    c.self.inside.kept) c.args.self.now c.self.invariant.0 c.self.view_is))
 
 pub returns-clause-count : goal.returns-clause-count
 returns-clause-count c =
     ap length c.as_slice.ensures.value
     ∙ sym (length-logged 0 c.self.inside.records.items c.self.inside.kept)
-    ∙ sym (length-records c.self.inside.marks.items (logged_in c.self.inside.records.items c.self.inside.kept) c.args.self.now c.self.invariant.0 c.self.view_is)
+    ∙ sym (length-records c.self.inside.marks.items (logged_in c.self.inside.records.items
+    c.self.inside.kept) c.args.self.now c.self.invariant.0 c.self.view_is)
 
 pub returns-clause-few : goal.returns-clause-few
 returns-clause-few c =
@@ -25,5 +28,6 @@ returns-clause-few c =
 
 pub returns-clause-levels : goal.returns-clause-levels
 returns-clause-levels c =
-    let size = length-log c.self.inside.marks.items (logged_in c.self.inside.records.items c.self.inside.kept) c.args.self.now c.self.view_is in
+    let size = length-log c.self.inside.marks.items
+    (logged_in c.self.inside.records.items c.self.inside.kept) c.args.self.now c.self.view_is in
     let few = c.self.invariant.0.few_levels in omega arith

@@ -8,7 +8,8 @@ use Rattle.vino_top.proofs.demo.run_all.Given as goal
 abbrev pub invariant-lines : goal.invariant-lines
 invariant-lines g l =
     record {
-      reached : DemoReached (demo_place (g.D.Disk.seen l.fn.disk).size) l.fn.lines l.lines (seen_of l.fn.run.session) (seen_of l.run.session)
+      reached : DemoReached (demo_place (g.D.Disk.seen l.fn.disk).size) l.fn.lines l.lines
+          (seen_of l.fn.run.session) (seen_of l.run.session)
           (g.D.Disk.seen l.fn.disk) (g.D.Disk.seen l.disk)
           l.run.tally;
       within : IsSessionWithin (g.D.Disk.seen l.disk).size l.run.session;

@@ -16,20 +16,28 @@ returns-in-Err g c =
     record {
       ran = λ is. absurd (omega (arith, is));
       broke = λ is. absurd (omega (arith, is));
-      memory = λ is.
-          (kept (g.K.Sink.seen c.args.sink.now).got, inr (lacked_over c.args.n _ _ _ _ _ c.requires.script c.requires.begun c.in-Err.ensures.err));
+      memory = λ is. (
+        kept (g.K.Sink.seen c.args.sink.now).got,
+        inr (lacked_over c.args.n _ _ _ _ _
+            c.requires.script c.requires.begun c.in-Err.ensures.err),
+      );
       statuses = inr (inr refl);
       sink = not_used _;
     }
 
 pub tell-requires : goal.tell-requires
-tell-requires g c = record { tally = has_room _ _ _ _ _ _ _ _ (few_lines c.args.n c.args.lines c.requires.script) c.in_default.ensures.ok }
+tell-requires g c =
+    record {
+      tally = has_room _ _ _ _ _ _ _ _ (few_lines c.args.n c.args.lines c.requires.script)
+          c.in_default.ensures.ok;
+    }
 
 pub returns-in-Ok : goal.returns-in-Ok
 returns-in-Ok g c =
     record {
       ran = λ is.
-          ran_over c.args.n _ _ _ _ _ _ _ c.tell.new.text _ c.requires.script c.requires.begun c.in_default.ensures.ok c.tell.ensures
+          ran_over c.args.n _ _ _ _ _ _ _ c.tell.new.text _ c.requires.script c.requires.begun
+          c.in_default.ensures.ok c.tell.ensures
           (rw c.as_slice.ensures.value at c.in-Ok.ensures.contents);
       broke = λ is. absurd (omega (arith, is));
       memory = λ is. absurd (omega (arith, is));
@@ -42,7 +50,8 @@ returns g c =
     record {
       ran = λ is. absurd (omega (arith, is));
       broke = λ is.
-          ran_over c.args.n _ _ _ _ _ _ _ c.tell.new.text _ c.requires.script c.requires.begun c.in_default.ensures.ok c.tell.ensures
+          ran_over c.args.n _ _ _ _ _ _ _ c.tell.new.text _ c.requires.script c.requires.begun
+          c.in_default.ensures.ok c.tell.ensures
           (rw c.as_slice.ensures.value at c.in-Err-write_all.ensures.contents);
       memory = λ is. absurd (omega (arith, is));
       statuses = inr (inl refl);

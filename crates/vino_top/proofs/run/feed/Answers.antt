@@ -3,13 +3,17 @@ use Rattle.vino_top.specs.Run.{place}
 use Rattle.vino_top.specs.Standing.{seen_of}
 use Rattle.vino_base.specs.Streams.{not_used, used_then}
 use Rattle.std.proofs.Common.{arith, false, ◌+◌, ◌<◌, ◌≡◌, length, length-take}
-use Rattle.vino_top.proofs.RunLemmas.{fed_from, fed_next, fed_none, fed_short, fed_whole, place_within, stops_next, whole_fed, whole_inside, whole_stops}
+use Rattle.vino_top.proofs.RunLemmas.{fed_from, fed_next, fed_none, fed_short, fed_whole}
+use Rattle.vino_top.proofs.RunLemmas.{place_within, stops_next, whole_fed, whole_inside}
+use Rattle.vino_top.proofs.RunLemmas.{whole_stops}
 use Rattle.vino_top.proofs.run.feed.Goals as goal
 
 pub loop-at-init : goal.loop-at-init
 loop-at-init g c =
     record {
-      fed = fed_none (place c.args.keys.now (g.D.Disk.seen c.args.disk.now).size) (seen_of c.args.reader.now.session) c.args.reader.now.line _ _;
+      fed =
+          fed_none (place c.args.keys.now (g.D.Disk.seen c.args.disk.now).size)
+          (seen_of c.args.reader.now.session) c.args.reader.now.line _ _;
       within = c.requires.within;
       sink = not_used _;
       inside = omega arith;
@@ -34,7 +38,9 @@ returns-in-Err-clause-fed g c =
     let i = c.loop-at.invariant in
     let size : (g.D.Disk.seen c.loop-at.disk).size ≡ (g.D.Disk.seen c.args.disk.now).size = i.fed.calls.size in
     record {
-      contents = whole_stops _ _ _ _ _ c.args.bytes.now _ c.loop-at.at c.in-Some.end _ _ _ _ _ _ c.in-Err.stop c.behind-rest.ensures c.in-Some.ensures i.fed
+      contents =
+          whole_stops _ _ _ _ _ c.args.bytes.now _ c.loop-at.at c.in-Some.end _ _ _ _ _ _
+          c.in-Err.stop c.behind-rest.ensures c.in-Some.ensures i.fed
           (rw size at c.in-Err.ensures.taken.contents);
       sink = used_then i.sink c.in-Err.ensures.taken.sink;
     }
@@ -46,7 +52,9 @@ loop-at-preserved-in-Some g c =
     let size : (g.D.Disk.seen c.loop-at.disk).size ≡ (g.D.Disk.seen c.args.disk.now).size = i.fed.calls.size in
     let inside = whole_inside _ bytes _ c.loop-at.at c.in-Some.end c.behind-rest.ensures c.in-Some.ensures in
     record {
-      fed = whole_fed _ _ _ _ _ _ _ bytes _ c.loop-at.at c.in-Some.end _ _ _ _ _ _ c.behind-rest.ensures c.in-Some.ensures i.fed c.in_default-run_whole.ensures.taken.line
+      fed =
+          whole_fed _ _ _ _ _ _ _ bytes _ c.loop-at.at c.in-Some.end _ _ _ _ _ _
+          c.behind-rest.ensures c.in-Some.ensures i.fed c.in_default-run_whole.ensures.taken.line
           (rw size at c.in_default-run_whole.ensures.taken.contents);
       within = c.run_whole.ensures.within;
       sink = used_then {failed = false} i.sink c.in_default-run_whole.ensures.taken.sink;
@@ -58,7 +66,9 @@ loop-at-preserved-then-at-bytes g c =
     let i = c.loop-at.invariant in
     let p = c.put_plain-at in
     record {
-      fed = fed_from _ _ _ _ _ _ c.args.bytes.now _ c.loop-at.at p.result _ _ _ _ c.behind-rest.ensures i.fed p.ensures.no_line p.ensures.line;
+      fed =
+          fed_from _ _ _ _ _ _ c.args.bytes.now _ c.loop-at.at p.result _ _ _ _
+          c.behind-rest.ensures i.fed p.ensures.no_line p.ensures.line;
       within = i.within;
       sink = i.sink;
       inside = omega (arith, c.if-at-bytes.true);
@@ -73,7 +83,9 @@ take_byte-requires g c =
     record {
       lines = omega (arith, i.fed.lines, c.requires.lines, length-take c.loop-at.at bytes, within, c.if-at-bytes.false);
       within = i.within;
-      short = fed_short _ _ _ _ _ _ _ _ _ _ (fed_from _ _ _ _ _ _ bytes _ c.loop-at.at p.result _ _ _ _ c.behind-rest.ensures i.fed p.ensures.no_line p.ensures.line) c.requires.short;
+      short =
+          fed_short _ _ _ _ _ _ _ _ _ _ (fed_from _ _ _ _ _ _ bytes _ c.loop-at.at p.result _ _ _ _
+          c.behind-rest.ensures i.fed p.ensures.no_line p.ensures.line) c.requires.short;
     }
 
 pub returns-in-Err-take_byte-clause-fed : goal.returns-in-Err-take_byte-clause-fed
@@ -86,7 +98,9 @@ returns-in-Err-take_byte-clause-fed g c =
     let size : (g.D.Disk.seen c.loop-at.disk).size ≡ (g.D.Disk.seen c.args.disk.now).size = i.fed.calls.size in
     record {
       contents = stops_next _ _ _ _ _ bytes (c.loop-at.at + p.result) _ _ _ _ _ _ c.in-Err-take_byte.stop below
-          (fed_from _ _ _ _ _ _ bytes _ c.loop-at.at p.result _ _ _ _ c.behind-rest.ensures i.fed p.ensures.no_line p.ensures.line) (rw size at c.in-Err-take_byte.ensures.fed.contents);
+          (fed_from _ _ _ _ _ _ bytes _ c.loop-at.at p.result _ _ _ _
+          c.behind-rest.ensures i.fed p.ensures.no_line p.ensures.line)
+          (rw size at c.in-Err-take_byte.ensures.fed.contents);
       sink = used_then i.sink c.in-Err-take_byte.ensures.fed.sink;
     }
 
@@ -100,7 +114,9 @@ loop-at-preserved g c =
     let size : (g.D.Disk.seen c.loop-at.disk).size ≡ (g.D.Disk.seen c.args.disk.now).size = i.fed.calls.size in
     record {
       fed = fed_next _ _ _ _ _ _ _ bytes (c.loop-at.at + p.result) _ _ _ _ _ _ below
-          (fed_from _ _ _ _ _ _ bytes _ c.loop-at.at p.result _ _ _ _ c.behind-rest.ensures i.fed p.ensures.no_line p.ensures.line) (rw size at c.in_default-take_byte.ensures.fed.contents);
+          (fed_from _ _ _ _ _ _ bytes _ c.loop-at.at p.result _ _ _ _
+          c.behind-rest.ensures i.fed p.ensures.no_line p.ensures.line)
+          (rw size at c.in_default-take_byte.ensures.fed.contents);
       within = c.take_byte.ensures.within;
       sink = used_then {failed = false} i.sink c.in_default-take_byte.ensures.fed.sink;
       inside = omega (arith, below);
@@ -109,6 +125,8 @@ loop-at-preserved g c =
 pub returns-clause-fed : goal.returns-clause-fed
 returns-clause-fed g c =
     record {
-      contents = fed_whole _ _ _ _ _ c.args.bytes.now c.loop-at.at _ _ _ _ (omega (arith, c.loop-at-test.false)) c.loop-at.invariant.fed;
+      contents =
+          fed_whole _ _ _ _ _ c.args.bytes.now c.loop-at.at _ _ _ _
+          (omega (arith, c.loop-at-test.false)) c.loop-at.invariant.fed;
       sink = c.loop-at.invariant.sink;
     }

@@ -9,7 +9,9 @@ use Rattle.vino_top.proofs.run.feed.Given as goal
 abbrev pub invariant-loop-at : goal.invariant-loop-at
 invariant-loop-at g l =
     record {
-      fed : Feeds (place l.keys (g.D.Disk.seen l.fn.disk).size) (seen_of l.fn.reader.session) (seen_of l.reader.session) l.fn.reader.line l.reader.line (take l.at l.bytes) (g.K.Sink.seen l.fn.out).got (g.K.Sink.seen l.out).got
+      fed : Feeds (place l.keys (g.D.Disk.seen l.fn.disk).size) (seen_of l.fn.reader.session)
+          (seen_of l.reader.session) l.fn.reader.line l.reader.line (take l.at l.bytes)
+          (g.K.Sink.seen l.fn.out).got (g.K.Sink.seen l.out).got
           (g.D.Disk.seen l.fn.disk) (g.D.Disk.seen l.disk);
       within : IsSessionWithin (g.D.Disk.seen l.disk).size l.reader.session;
       sink : IsUsed (g.K.Sink.seen l.fn.out).device (g.K.Sink.seen l.out).device false;

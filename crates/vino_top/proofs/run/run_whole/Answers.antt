@@ -16,7 +16,10 @@ pub returns-in-Err-clause-taken : goal.returns-in-Err-clause-taken
 returns-in-Err-clause-taken g c =
     record {
       line = tt;
-      contents = line_lacks (place c.args.keys.now (g.D.Disk.seen c.args.disk.now).size) c.args.text.now (seen_of c.args.reader.now.session) _ _ _ c.in-Err.ensures.same_disk c.in-Err.ensures.err.1;
+      contents =
+          line_lacks (place c.args.keys.now (g.D.Disk.seen c.args.disk.now).size)
+          c.args.text.now (seen_of c.args.reader.now.session) _ _ _ c.in-Err.ensures.same_disk
+          c.in-Err.ensures.err.1;
       sink = not_used _;
     }
 
@@ -24,7 +27,10 @@ pub returns-clause-taken : goal.returns-clause-taken
 returns-clause-taken g c =
     record {
       line = ok_anyway c.write_lines.result c.requires.fresh;
-      contents = line_written (place c.args.keys.now (g.D.Disk.seen c.args.disk.now).size) c.args.text.now (seen_of c.args.reader.now.session) (seen_of c.run_line.new.self) (left_in c.run_line.new.out) _ _ _ _ c.write_lines.result
+      contents =
+          line_written (place c.args.keys.now (g.D.Disk.seen c.args.disk.now).size)
+          c.args.text.now (seen_of c.args.reader.now.session) (seen_of c.run_line.new.self)
+          (left_in c.run_line.new.out) _ _ _ _ c.write_lines.result
           c.in_default.ensures.ok c.run_line.ensures.counted c.write_lines.ensures.contents;
       sink = c.write_lines.ensures.sink;
     }

@@ -12,7 +12,9 @@ end_line-requires g c =
     record {
       lines = c.requires.lines;
       within = c.requires.within;
-      short = newline_short c.args.reader.now.line c.push.new.self c.args.byte (sym c.push.ensures.answer ∙ c.in-Line.is) c.push.ensures.line c.requires.short;
+      short =
+          newline_short c.args.reader.now.line c.push.new.self c.args.byte
+          (sym c.push.ensures.answer ∙ c.in-Line.is) c.push.ensures.line c.requires.short;
     }
 
 pub end_long-requires-clause-lines : goal.end_long-requires-clause-lines
@@ -20,28 +22,43 @@ end_long-requires-clause-lines g c = omega (arith, c.requires.lines)
 
 pub returns-in-Line-clause-fed : goal.returns-in-Line-clause-fed
 returns-in-Line-clause-fed g c =
-    let ends = newline_ends c.args.reader.now.line c.push.new.self c.args.byte (sym c.push.ensures.answer ∙ c.in-Line.is) c.push.ensures.line in
+    let ends = newline_ends c.args.reader.now.line c.push.new.self c.args.byte
+    (sym c.push.ensures.answer ∙ c.in-Line.is) c.push.ensures.line in
     let taken = c.end_line.ensures.taken in
     record {
-      contents = line_ended (place c.args.keys.now (g.D.Disk.seen c.args.disk.now).size) c.args.reader.now.line c.push.new.self c.end_line.new.reader.line c.args.byte (seen_of c.args.reader.now.session) (seen_of c.end_line.new.reader.session) _ _ _ _ c.end_line.result ends.0 ends.1
+      contents =
+          line_ended (place c.args.keys.now (g.D.Disk.seen c.args.disk.now).size)
+          c.args.reader.now.line c.push.new.self c.end_line.new.reader.line c.args.byte
+          (seen_of c.args.reader.now.session) (seen_of c.end_line.new.reader.session) _ _ _ _
+          c.end_line.result ends.0 ends.1
           taken.line taken.contents;
       sink = taken.sink;
     }
 
 pub returns-in-More-clause-fed : goal.returns-in-More-clause-fed
 returns-in-More-clause-fed g c =
-    let goes = byte_goes c.args.reader.now.line c.push.new.self c.args.byte (sym c.push.ensures.answer ∙ c.in-More.is) c.push.ensures.line in
+    let goes = byte_goes c.args.reader.now.line c.push.new.self c.args.byte
+    (sym c.push.ensures.answer ∙ c.in-More.is) c.push.ensures.line in
     record {
-      contents = rw goes.1 (fed_byte (place c.args.keys.now (g.D.Disk.seen c.args.disk.now).size) (seen_of c.args.reader.now.session) c.args.reader.now.line c.args.byte _ _ goes.0);
+      contents =
+          rw goes.1 (fed_byte (place c.args.keys.now (g.D.Disk.seen c.args.disk.now).size)
+          (seen_of c.args.reader.now.session) c.args.reader.now.line c.args.byte _ _ goes.0);
       sink = not_used _;
     }
 
 pub returns-in-TooLong-clause-fed : goal.returns-in-TooLong-clause-fed
 returns-in-TooLong-clause-fed g c =
-    let ends = longest_ends c.args.reader.now.line c.push.new.self c.args.byte (sym c.push.ensures.answer ∙ c.in-TooLong.is) c.requires.short c.push.ensures.line in
-    let taken = c.end_long.ensures.taken (place c.args.keys.now (g.D.Disk.seen c.args.disk.now).size) (g.D.Disk.seen c.args.disk.now) in
+    let ends = longest_ends c.args.reader.now.line c.push.new.self c.args.byte
+    (sym c.push.ensures.answer ∙ c.in-TooLong.is) c.requires.short c.push.ensures.line in
+    let taken =
+    c.end_long.ensures.taken (place c.args.keys.now (g.D.Disk.seen c.args.disk.now).size)
+    (g.D.Disk.seen c.args.disk.now) in
     record {
-      contents = line_ended (place c.args.keys.now (g.D.Disk.seen c.args.disk.now).size) c.args.reader.now.line _ c.end_long.new.reader.line c.args.byte (seen_of c.args.reader.now.session) (seen_of c.end_long.new.reader.session) _ _ _ _ c.end_long.result ends.0 ends.1
+      contents =
+          line_ended (place c.args.keys.now (g.D.Disk.seen c.args.disk.now).size)
+          c.args.reader.now.line _ c.end_long.new.reader.line c.args.byte
+          (seen_of c.args.reader.now.session) (seen_of c.end_long.new.reader.session) _ _ _ _
+          c.end_long.result ends.0 ends.1
           taken.line taken.contents;
       sink = taken.sink;
     }

@@ -1,8 +1,8 @@
 use Rattle.std.proofs.Common.{[], List, ap, ◌∙◌, arith}
-use Rattle.kernel_model.specs.declared.Instr.{Instr}
-use Rattle.kernel_model.specs.Demo.{demo_keys}
-use Rattle.kernel_model.specs.World.{plain_image}
-use Rattle.kernel_model.specs.Images.{sealed_under}
+use Rattle.script_model.specs.declared.Instr.{Instr}
+use Rattle.script_model.specs.Demo.{demo_keys}
+use Rattle.script_model.specs.World.{plain_image}
+use Rattle.script_model.specs.Images.{sealed_under}
 use Rattle.demo_text.proofs.LineLemmas.{are_images}
 use Rattle.demo_text.proofs.lines.DemoLines.new.Goals as goal
 
@@ -12,5 +12,6 @@ invariant_of-result c = (
   omega arith,
   are_images c.in_ok-three.three.items c.in_ok-newest.newest.items
       (c.in_ok-three.ensures ∙ ap (λ (code : List Instr). sealed_under demo_keys (plain_image code [])) c.three.ensures)
-      (c.in_ok-newest.ensures ∙ ap (λ (code : List Instr). sealed_under demo_keys (plain_image code [])) c.newest_frame.ensures),
+      (c.in_ok-newest.ensures ∙ ap (λ (code : List Instr). sealed_under demo_keys
+      (plain_image code [])) c.newest_frame.ensures),
 )

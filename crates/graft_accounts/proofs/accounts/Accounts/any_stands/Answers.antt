@@ -10,4 +10,6 @@ returns-clause-exact c = (
 )
 
 pub returns-clause-none : goal.returns-clause-none
-returns-clause-none c = λ e. none_seen c.args.self.now (λ i. ap (λ (t : Table). slice_index_or t.grafts i None) (sym c.self.view_is) ∙ c.any.ensures.0 e i)
+returns-clause-none c =
+    λ e. none_seen c.args.self.now (λ i. ap (λ (t : Table). slice_index_or t.grafts i None)
+    (sym c.self.view_is) ∙ c.any.ensures.0 e i)

@@ -7,12 +7,14 @@ pub returns : goal.returns
 returns c =
     record {
       value =
-          close_seen c.remove_first.new.self c.close_account.new.self c.args.p c.close_account.ensures.was c.requires.process c.requires.not_root
+          close_seen c.remove_first.new.self c.close_account.new.self c.args.p
+          c.close_account.ensures.was c.requires.process c.requires.not_root
           c.close_account.ensures.value
           ∙ ap (account_closed c.args.p) c.remove_first.ensures.value;
       sums =
           (λ j.
-          close_totals c.remove_first.new.self c.close_account.new.self c.args.p c.close_account.ensures.value c.close_account.ensures.was
+          close_totals c.remove_first.new.self c.close_account.new.self c.args.p
+          c.close_account.ensures.value c.close_account.ensures.was
           c.close_account.ensures.sound j
           ∙ c.remove_first.ensures.sums j);
     }

@@ -13,6 +13,7 @@ returns-clause-changed c =
           give_seen c.args.self.now c.move_amount.new.self c.args.k c.args.p c.args.q c.args.n c.move_amount.ensures.was
           c.requires.from c.requires.to (omega arith) moved);
       sums =
-          totals_with c.args.self.now c.move_amount.new.self c.args.k (given c.args.p c.args.q c.from-2.result (sums_of c.args.self.now c.args.k))
+          totals_with c.args.self.now c.move_amount.new.self c.args.k
+          (given c.args.p c.args.q c.from-2.result (sums_of c.args.self.now c.args.k))
           c.move_amount.ensures.value refl c.move_amount.ensures.was c.move_amount.ensures.sound;
     }

@@ -3,7 +3,12 @@ use Rattle.std.proofs.Common.{subst}
 use Rattle.graft_accounts.specs.Sums.{IsSums}
 use Rattle.graft_accounts.proofs.accounts.Accounts.new.Goals as goal
 
-boot : (c : goal.After-new-4) → IsBoot (record { grafts = c.new.result; steps = c.new-2.result; records = c.new-3.result; locks = c.new-4.result }) c.args.grant
+boot : (c : goal.After-new-4) → IsBoot (record {
+  grafts = c.new.result;
+  steps = c.new-2.result;
+  records = c.new-3.result;
+  locks = c.new-4.result;
+}) c.args.grant
 boot c =
     record {
       grafts = c.new.ensures;

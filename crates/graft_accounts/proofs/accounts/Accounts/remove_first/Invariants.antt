@@ -11,6 +11,7 @@ abbrev pub invariant-loop-left : goal.invariant-loop-left
 invariant-loop-left l =
     record {
       few : l.left ≤ 16;
-      value : without_grafts l.p l.left (accounts_of l.self) ≡ without_grafts l.p l.fn.points (accounts_of l.initial.self);
+      value : without_grafts l.p l.left (accounts_of l.self)
+          ≡ without_grafts l.p l.fn.points (accounts_of l.initial.self);
       sums : (j : Kind) → total (accounts_of l.self) j ≡ total (accounts_of l.initial.self) j;
     }

@@ -1,7 +1,7 @@
 use Rattle.std.proofs.Common.{sym, subst, rules}
 use Rattle.std.proofs.lemmas.Result.{on_ok_weaker}
-use Rattle.kernel_model.specs.declared.Op.TheVariants.{Ret}
-use Rattle.kernel_model.specs.Boxed.{instr}
+use Rattle.graft_texts.specs.declared.Op.TheVariants.{Ret}
+use Rattle.graft_texts.specs.Boxed.{instr}
 use Rattle.graft_lang.specs.Writing.{WritesStatements}
 use Rattle.graft_lang.proofs.Writing.{symbol_leads, token_leads, else_written, if_written, either_written}
 use Rattle.graft_lang.proofs.Writing.{while_written, if_leads, while_leads, trap_leads, answer_leads}

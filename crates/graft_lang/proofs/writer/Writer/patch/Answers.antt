@@ -1,4 +1,4 @@
-use Rattle.kernel_model.specs.Instructions.{fits}
+use Rattle.graft_texts.specs.Instructions.{fits}
 use Rattle.graft_lang.proofs.Writing.{all_set}
 use Rattle.graft_lang.proofs.writer.Writer.patch.Goals as goal
 

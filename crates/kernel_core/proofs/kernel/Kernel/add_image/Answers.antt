@@ -8,8 +8,10 @@ use Rattle.kernel_core.proofs.kernel.Kernel.add_image.Goals as goal
 pub returns-in-Err-clause-added : goal.returns-in-Err-clause-added
 returns-in-Err-clause-added g c = λ memory k stands rests.
     let x = placed_of c.args.self.now.running in
-    bytes_are_refused g.C.Meaning.Rules.meaning x c.args.slot (load c.args.keys.now c.args.bytes.now) k (refusal_of c.in-Err.fault)
-    (sym c.slot_refusal.ensures.value ∙ c.in_default.is) (known_fault c.in-Err.fault memory) c.in-Err.ensures.err stands rests
+    bytes_are_refused g.C.Meaning.Rules.meaning x c.args.slot
+    (load c.args.keys.now c.args.bytes.now) k (refusal_of c.in-Err.fault)
+    (sym c.slot_refusal.ensures.value ∙ c.in_default.is) (known_fault c.in-Err.fault memory)
+    c.in-Err.ensures.err stands rests
 
 pub returns-in-Ok-clause-added : goal.returns-in-Ok-clause-added
 returns-in-Ok-clause-added g c = λ memory k stands rests.

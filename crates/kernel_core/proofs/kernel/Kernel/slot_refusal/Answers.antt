@@ -14,5 +14,6 @@ pub returns-then-has_image-clause-refused : goal.returns-then-has_image-clause-r
 returns-then-has_image-clause-refused g c = λ k loaded stands rests.
     let x = placed_of c.args.self.now.running in
     slot_is_refused g.C.Meaning.Rules.meaning x c.args.slot loaded k Taken
-    (used_slot x.images c.args.slot (omega (arith, c.if-slot-gt-LAST_SLOT.false)) (sym c.has_image.ensures ∙ c.if-has_image.true))
+    (used_slot x.images c.args.slot (omega (arith, c.if-slot-gt-LAST_SLOT.false))
+    (sym c.has_image.ensures ∙ c.if-has_image.true))
     stands rests

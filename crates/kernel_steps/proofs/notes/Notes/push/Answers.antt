@@ -11,7 +11,8 @@ returns-then-len-lt-NOTES c =
     let w = c.without_bytes.result in
     let many = as_many l b in
     let list : c.push.new.self.items ≡ l ++ w ∷ [] = search rules in
-    added_more c.args.self.now (notes_with l b) (notes_with c.push.new.self.items b) (note_with c.args.note []) c.self.view_is
+    added_more c.args.self.now (notes_with l b) (notes_with c.push.new.self.items b)
+    (note_with c.args.note []) c.self.view_is
     (ap (λ xs. notes_with xs b) list
     ∙ ap (λ bs. notes_with (l ++ w ∷ []) bs) (sym (none_behind b))
     ∙ notes_added l b w [] c.self.invariant.0.given c.without_bytes.ensures.count
@@ -23,7 +24,8 @@ returns-else-len-lt-NOTES c =
     let l = c.self.inside.list.items in
     let b = take c.self.inside.size c.self.inside.bytes.items in
     let many = as_many l b in
-    added_full c.args.self.now (notes_with l b) (note_with c.args.note []) c.self.view_is (omega (arith, many, c.if-len-lt-NOTES.false))
+    added_full c.args.self.now (notes_with l b) (note_with c.args.note []) c.self.view_is
+    (omega (arith, many, c.if-len-lt-NOTES.false))
 
 pub invariant_of-self : goal.invariant_of-self
 invariant_of-self c =

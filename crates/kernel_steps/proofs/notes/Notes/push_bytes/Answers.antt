@@ -1,4 +1,5 @@
-use Rattle.std.proofs.Common.{rules, ◌≡◌, take, length, refl, sym, subst, ℕ, List, Option, ◌++◌, [], ◌∷◌, ◌∙◌, arith, ap}
+use Rattle.std.proofs.Common.{rules, ◌≡◌, take, length, refl, sym, subst, ℕ, List, Option, ◌++◌}
+use Rattle.std.proofs.Common.{[], ◌∷◌, ◌∙◌, arith, ap}
 use Rattle.kernel_model.specs.declared.BareNote.{BareNote}
 use Rattle.kernel_model.specs.declared.BareNote.TheVariants as bare
 use Rattle.kernel_model.specs.declared.Note.TheVariants.{Gave}
@@ -19,7 +20,9 @@ returns-then-len-lt-NOTES c =
     let size = c.len-self-inside.result in
     let new = notes_with c.push.new.self.items (take size bytes) in
     let list : c.push.new.self.items ≡ l ++ w ∷ [] = search rules in
-    let whole : take size bytes ≡ b ++ more = given_whole b c.truncate.new.self.items bytes more size c.args.gave.now c.truncate.ensures.items c.in-Some.ensures.some c.append_to.ensures.bytes (search rules) in
+    let whole : take size bytes ≡ b ++ more =
+    given_whole b c.truncate.new.self.items bytes more size c.args.gave.now
+    c.truncate.ensures.items c.in-Some.ensures.some c.append_to.ensures.bytes (search rules) in
     subst (λ (o : Option (List ℕ)). Adds (gave_note c.args.number o) c.args.self.now new) (sym c.in-Some.ensures.some)
     (added_more c.args.self.now (notes_with l b) new (Gave c.args.number more) c.self.view_is
     (ap (λ xs. notes_with xs (take size bytes)) list
@@ -33,8 +36,10 @@ returns-else-len-lt-NOTES c =
     let b = take c.self.inside.size c.self.inside.bytes.items in
     let more = c.in-Some.bytes.now in
     let many = as_many l b in
-    subst (λ (o : Option (List ℕ)). Adds (gave_note c.args.number o) c.args.self.now c.args.self.now) (sym c.in-Some.ensures.some)
-    (added_full c.args.self.now (notes_with l b) (Gave c.args.number more) c.self.view_is (omega (arith, many, c.if-len-lt-NOTES.false)))
+    subst (λ (o : Option (List ℕ)). Adds (gave_note c.args.number o) c.args.self.now
+    c.args.self.now) (sym c.in-Some.ensures.some)
+    (added_full c.args.self.now (notes_with l b) (Gave c.args.number more) c.self.view_is
+    (omega (arith, many, c.if-len-lt-NOTES.false)))
 
 pub invariant_of-self : goal.invariant_of-self
 invariant_of-self c =
@@ -46,7 +51,9 @@ invariant_of-self c =
     let size = c.len-self-inside.result in
     let known : size ≡ length bytes = search rules in
     let list : c.push.new.self.items ≡ l ++ w ∷ [] = search rules in
-    let whole : take size bytes ≡ b ++ more = given_whole b c.truncate.new.self.items bytes more size c.args.gave.now c.truncate.ensures.items c.in-Some.ensures.some c.append_to.ensures.bytes known in
+    let whole : take size bytes ≡ b ++ more =
+    given_whole b c.truncate.new.self.items bytes more size c.args.gave.now
+    c.truncate.ensures.items c.in-Some.ensures.some c.append_to.ensures.bytes known in
     let few = c.if-len-lt-NOTES.true in (
       fit_added l c.push.new.self.items b (take size bytes) more w _ _ _ _ c.self.invariant.0 (omega arith) refl
           c.in-Some.ensures.few list whole (search rules) (search rules),

@@ -7,7 +7,11 @@ use Rattle.lock_table.proofs.NotedLemmas.{noted_none}
 use Rattle.lock_table.proofs.call.CallHolds.new.Goals as goal
 
 pub invariant_of-result : goal.invariant_of-result
-invariant_of-result c = (c.in_ok-masks.ensures.size, rw c.new.ensures (noted_none c.in_ok-masks.masks.items c.in_ok-masks.ensures.free))
+invariant_of-result c = (
+  c.in_ok-masks.ensures.size,
+  rw c.new.ensures
+      (noted_none c.in_ok-masks.masks.items c.in_ok-masks.ensures.free),
+)
 
 pub returns : goal.returns
 returns c n e = ap (λ (h : Holds). held_by h e) (c.in_ok-masks.ensures.free n) ∙ free_levels no_holds no_holds-unused e

@@ -14,12 +14,16 @@ returns-in-Some c d =
     let size = ap length c.deref.ensures.value in
     ap (λ (h : Holds). held_by h d) c.holds.ensures
     ∙ ap (λ (n : ℕ). levels_at c.in-Some.call.now n d) c.object_number.ensures.value
-    ∙ ap (λ (xs : List Holds). levels_at xs (number_of c.args.o) d) (element c.deref.result.now c.args.p c.in-Some.call.now inside c.in-Some.ensures.lookup.1)
-    ∙ ap (λ (calls : List (List Holds)). levels_at (masks_of calls c.args.p) (number_of c.args.o) d) (c.deref.ensures.value ∙ c.self.view_is)
-    ∙ holding_view c.args.self.now c.args.p d c.args.o (omega (arith, inside, size, c.self.invariant.0)) c.requires.range
+    ∙ ap (λ (xs : List Holds). levels_at xs (number_of c.args.o) d)
+    (element c.deref.result.now c.args.p c.in-Some.call.now inside c.in-Some.ensures.lookup.1)
+    ∙ ap (λ (calls : List (List Holds)). levels_at (masks_of calls c.args.p) (number_of c.args.o) d)
+    (c.deref.ensures.value ∙ c.self.view_is)
+    ∙ holding_view c.args.self.now c.args.p d c.args.o
+    (omega (arith, inside, size, c.self.invariant.0)) c.requires.range
 
 pub returns-in-None : goal.returns-in-None
 returns-in-None c d =
     let out : length c.deref.result.now ≤ c.args.p = grind (arith, nat_tests, c.in-None.ensures.lookup) in
     let size = ap length c.deref.ensures.value in
-    free_levels no_holds no_holds-unused d ∙ sym (nothing_beyond c.args.self.now c.args.p d c.args.o (omega (arith, out, size, c.self.invariant.0)))
+    free_levels no_holds no_holds-unused d ∙ sym (nothing_beyond c.args.self.now c.args.p d c.args.o
+    (omega (arith, out, size, c.self.invariant.0)))

@@ -15,5 +15,6 @@ returns c = (
   λ none. ap (λ (xs : List (List Holds)). held xs) (sym c.self.view_is)
       ∙ nothing c.self.inside.calls.items (λ p n e. c.self.invariant.1.none p n e (c.is_empty.ensures.none none p)),
   λ none. by_case c.is_empty.result (HasSome c.self.inside.holding) c.is_empty.ensures.some
-      (λ some. none_some c.self.inside.holding c.self.inside.calls.items some c.self.invariant.1 (ap (λ (xs : List (List Holds)). held xs) c.self.view_is ∙ none)),
+      (λ some. none_some c.self.inside.holding c.self.inside.calls.items some c.self.invariant.1
+      (ap (λ (xs : List (List Holds)). held xs) c.self.view_is ∙ none)),
 )

@@ -13,6 +13,9 @@ returns-in-Some c =
     let size = ap length c.deref.ensures.value in
     c.level_of.ensures
     ∙ ap (λ (n : ℕ). conflicting_level c.in-Some.call.now n c.args.wanted) c.object_number.ensures.value
-    ∙ ap (λ (xs : List Holds). conflicting_level xs (number_of c.args.o) c.args.wanted) (element c.deref.result.now c.args.p c.in-Some.call.now inside c.in-Some.ensures.lookup.1)
-    ∙ ap (λ (calls : List (List Holds)). conflicting_level (masks_of calls c.args.p) (number_of c.args.o) c.args.wanted) (c.deref.ensures.value ∙ c.self.view_is)
-    ∙ level_view c.args.self.now c.args.p c.args.o c.args.wanted (omega (arith, inside, size, c.self.invariant.0)) c.requires.range
+    ∙ ap (λ (xs : List Holds). conflicting_level xs (number_of c.args.o) c.args.wanted)
+    (element c.deref.result.now c.args.p c.in-Some.call.now inside c.in-Some.ensures.lookup.1)
+    ∙ ap (λ (calls : List (List Holds)). conflicting_level (masks_of calls c.args.p)
+    (number_of c.args.o) c.args.wanted) (c.deref.ensures.value ∙ c.self.view_is)
+    ∙ level_view c.args.self.now c.args.p c.args.o c.args.wanted
+    (omega (arith, inside, size, c.self.invariant.0)) c.requires.range

@@ -10,19 +10,29 @@ use Rattle.lock_table.proofs.table.LockTable.merge_level.Goals as goal
 
 pub returns : goal.returns
 returns c =
-    let inside : c.args.by.process < length c.self.inside.calls.items = omega (arith, c.args.by.is_process, c.self.invariant.0) in
-    let own = element c.self.inside.calls.items c.args.by.process c.index_mut-call.result.now inside c.index_mut-call.ensures.value in
-    merge_view c.self.inside.calls.items c.merge_level.new.self c.args.by.process c.args.by.level c.args.by.is_process c.self.invariant.0
+    let inside : c.args.by.process < length c.self.inside.calls.items =
+    omega (arith, c.args.by.is_process, c.self.invariant.0) in
+    let own = element c.self.inside.calls.items c.args.by.process c.index_mut-call.result.now inside
+    c.index_mut-call.ensures.value in
+    merge_view c.self.inside.calls.items c.merge_level.new.self c.args.by.process c.args.by.level
+    c.args.by.is_process c.self.invariant.0
     (λ n e. c.merge_level.ensures n e ∙ ap (λ (xs : List Holds). merged c.args.by.level (levels_at xs n) e) own)
     ∙ ap (λ (xs : List (List Holds)). merge_level c.args.by.process c.args.by.level (held xs)) c.self.view_is
 
 pub invariant_of-self : goal.invariant_of-self
 invariant_of-self c =
-    let inside : c.args.by.process < length c.self.inside.calls.items = omega (arith, c.args.by.is_process, c.self.invariant.0) in
-    let own = element c.self.inside.calls.items c.args.by.process c.index_mut-call.result.now inside c.index_mut-call.ensures.value in
-    let levels = λ (n e : ℕ). c.merge_level.ensures n e ∙ ap (λ (xs : List Holds). merged c.args.by.level (levels_at xs n) e) own in (
+    let inside : c.args.by.process < length c.self.inside.calls.items =
+    omega (arith, c.args.by.is_process, c.self.invariant.0) in
+    let own = element c.self.inside.calls.items c.args.by.process c.index_mut-call.result.now inside
+    c.index_mut-call.ensures.value in
+    let levels = λ (n e : ℕ). c.merge_level.ensures n e
+    ∙ ap (λ (xs : List Holds). merged c.args.by.level (levels_at xs n) e) own in (
       search rules,
-      merged_holding c.self.inside.holding c.self.inside.calls.items c.merge_level.new.self c.args.by.process c.args.by.level inside c.requires c.args.by.is_level c.self.invariant.1 levels,
+      merged_holding c.self.inside.holding c.self.inside.calls.items c.merge_level.new.self
+          c.args.by.process c.args.by.level inside c.requires c.args.by.is_level
+          c.self.invariant.1 levels,
       c.self.invariant.2,
-      merged_takers c.self.inside.takers.items c.self.inside.calls.items c.merge_level.new.self c.args.by.process c.args.by.level inside c.requires c.args.by.is_level c.self.invariant.3 levels,
+      merged_takers c.self.inside.takers.items c.self.inside.calls.items c.merge_level.new.self
+          c.args.by.process c.args.by.level inside c.requires c.args.by.is_level
+          c.self.invariant.3 levels,
     )

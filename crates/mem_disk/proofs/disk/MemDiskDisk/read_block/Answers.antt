@@ -11,4 +11,8 @@ pub invariant_of-self-else-next_fails : goal.invariant_of-self-else-next_fails
 invariant_of-self-else-next_fails c = search (rules, length-blocks_of)
 
 pub returns-clause-given : goal.returns-clause-given
-returns-clause-given c = cc (slice_get-get_or c.args.self.now.blocks c.args.b [] c.requires, ap (λ (d : DiskState). d.blocks) c.self.view_is)
+returns-clause-given c =
+    cc (
+      slice_get-get_or c.args.self.now.blocks c.args.b [] c.requires,
+      ap (λ (d : DiskState). d.blocks) c.self.view_is,
+    )

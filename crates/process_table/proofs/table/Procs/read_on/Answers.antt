@@ -10,4 +10,6 @@ pub returns : goal.returns
 returns c =
     rw (sym c.self.view_is)
     (ap (λ (x : ℕ → ℕ → Option OpenRow). record (processes_of (the_view c.self.inside)) { file = x })
-    (file_becomes c.self.inside.files c.args.p c.args.fd c.place.result c.row_read_on.new.row (option_map (read_on c.args.i)) c.self.invariant.files c.requires.process c.requires.number c.place.ensures c.row_read_on.ensures))
+    (file_becomes c.self.inside.files c.args.p c.args.fd c.place.result c.row_read_on.new.row
+    (option_map (read_on c.args.i)) c.self.invariant.files c.requires.process c.requires.number
+    c.place.ensures c.row_read_on.ensures))

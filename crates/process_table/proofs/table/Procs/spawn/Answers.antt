@@ -12,4 +12,5 @@ pub invariant_of-self : goal.invariant_of-self
 invariant_of-self c =
     let free = c.in_ok-process.ensures.least in
     rw c.join.ensures
-    (requeued _ _ c.self.invariant (spawned-queue _ _ free.below free.free c.self.invariant.sound.queue) (λ q living. living-spawned q _ _ living))
+    (requeued _ _ c.self.invariant (spawned-queue _ _ free.below free.free
+    c.self.invariant.sound.queue) (λ q living. living-spawned q _ _ living))

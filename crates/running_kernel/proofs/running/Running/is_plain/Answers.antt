@@ -9,9 +9,13 @@ pub returns-in-Some : goal.returns-in-Some
 returns-in-Some g c =
     λ plain.
     let x = c.args.self.now in
-    let fl : c.flight-flight.result.now ≡ flight_of x.calls.items c.args.p = c.flight-flight.ensures ∙ ap (λ fs. flight_of fs c.args.p) c.deref.ensures.value in
+    let fl : c.flight-flight.result.now ≡ flight_of x.calls.items c.args.p = c.flight-flight.ensures
+    ∙ ap (λ fs. flight_of fs c.args.p) c.deref.ensures.value in
     record {
-      none = no_level (flight_of x.calls.items c.args.p).chain.levels (sym (ap (λ (f : Flight). length f.chain.levels) fl) ∙ sym c.count.ensures.value ∙ omega (arith, c.if-count-gt0.false));
+      none =
+          no_level (flight_of x.calls.items c.args.p).chain.levels
+          (sym (ap (λ (f : Flight). length f.chain.levels) fl) ∙ sym c.count.ensures.value
+          ∙ omega (arith, c.if-count-gt0.false));
       nowhere = c.has_grafts.ensures.none c.if-has_grafts.false;
       flight = c.in-Some.call.now;
       stands = sym (ap (λ (f : Flight). f.call) fl) ∙ (sym c.get.ensures ∙ ap option_copied c.in-Some.is);

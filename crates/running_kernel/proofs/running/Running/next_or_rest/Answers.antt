@@ -7,4 +7,6 @@ returns-clause-running g c =
     let x = c.args.self.now in
     let y = c.next_from.new.self in
     still_running x y c.requires.running c.next_from.ensures.same
-    (order_stays g.C.Meaning.Rules.meaning (placed_of x) c.next_from.result x.clock x.order y.order c.requires.running.counts c.requires.running.order c.requires.running.once c.next_from.ensures.kept c.next_from.ensures.rested)
+    (order_stays g.C.Meaning.Rules.meaning (placed_of x) c.next_from.result x.clock x.order
+    y.order c.requires.running.counts c.requires.running.order c.requires.running.once
+    c.next_from.ensures.kept c.next_from.ensures.rested)

@@ -9,7 +9,8 @@ use Rattle.running_kernel.proofs.running.Running.shown_records.Goals as goal
 pub returns-clause-value : goal.returns-clause-value
 returns-clause-value g c =
     let x = c.args.self.now in
-    let fl : c.flight.result.now ≡ flight_of x.calls.items c.args.p = c.flight.ensures ∙ ap (λ fs. flight_of fs c.args.p) c.deref.ensures.value in
+    let fl : c.flight.result.now ≡ flight_of x.calls.items c.args.p = c.flight.ensures
+    ∙ ap (λ fs. flight_of fs c.args.p) c.deref.ensures.value in
     ap length c.list.ensures.value ∙ as_many_records c.flight.result.now.chain.undo
     ∙ ap (λ (f : Flight). length (numbered_log f.chain.undo)) fl
     ∙ sym (records_many x c.args.p c.requires.process c.requires.running)

@@ -9,4 +9,11 @@ returns-in-Ok c = grind (arith, nat_tests, c.in-Ok.ensures.ok, decode_of-ok c.se
 
 pub returns-in-Err : goal.returns-in-Err
 returns-in-Err c =
-    grind (arith, nat_tests, c.in-Err.ensures.err, c.no_bytes.ensures, decode_of-ok c.self.inside.digits.now, c.self.view_is)
+    grind (
+      arith,
+      nat_tests,
+      c.in-Err.ensures.err,
+      c.no_bytes.ensures,
+      decode_of-ok c.self.inside.digits.now,
+      c.self.view_is,
+    )

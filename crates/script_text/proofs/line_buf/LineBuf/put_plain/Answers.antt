@@ -8,7 +8,8 @@ returns-clause-no_line c =
     let bytes = c.args.bytes.now in
     let l = c.self.inside.bytes.items in
     let n = c.min-n.result in
-    let within : n ≤ position_or_len (λ b. b == 10) bytes = omega (arith, c.min-n.ensures, c.plain_length.ensures.value) in
+    let within : n ≤ position_or_len (λ b. b == 10) bytes =
+    omega (arith, c.min-n.ensures, c.plain_length.ensures.value) in
     let room : length l + n ≤ 65536 = omega (arith, c.min-n.ensures, c.len-room.ensures, c.self.invariant) in
     rw (← c.self.view_is) ((plain_lines l bytes n within room).0)
 
@@ -17,7 +18,8 @@ returns-clause-line c =
     let bytes = c.args.bytes.now in
     let l = c.self.inside.bytes.items in
     let n = c.min-n.result in
-    let within : n ≤ position_or_len (λ b. b == 10) bytes = omega (arith, c.min-n.ensures, c.plain_length.ensures.value) in
+    let within : n ≤ position_or_len (λ b. b == 10) bytes =
+    omega (arith, c.min-n.ensures, c.plain_length.ensures.value) in
     let room : length l + n ≤ 65536 = omega (arith, c.min-n.ensures, c.len-room.ensures, c.self.invariant) in
     let new : c.extend_from_slice.new.self.items ≡ l ++ take n bytes = search rules in
     rw (← c.self.view_is) ((plain_lines l bytes n within room).1 ∙ sym new)

@@ -8,6 +8,7 @@ use Rattle.vino_top.proofs.lines.Lines.add_left.Given as goal
 abbrev pub invariant-loop-p : goal.invariant-loop-p
 invariant-loop-p g l =
     record {
-      lines : l.self ≡ concat (map (λ q. placed_left_line q ((placed_of l.kernel.running).call q)) (range_with_len 0 l.p));
+      lines : l.self ≡ concat (map (λ q. placed_left_line q ((placed_of l.kernel.running).call q))
+          (range_with_len 0 l.p));
       room : length l.self ≤ 2048 * l.p;
     }

@@ -1,6 +1,6 @@
 -- The lines so far, and those of the rows that are left.
 use Rattle.std.proofs.Common.{◌≡◌, ◌≤◌, ◌+◌, ◌*◌, ◌++◌, length}
-use Rattle.kernel_model.specs.Text.{row_lines}
+use Rattle.script_model.specs.Text.{row_lines}
 use Rattle.placed_laws.specs.PlacedRows.{placed_rows}
 use Rattle.running_kernel.specs.Views.{placed_of}
 use Rattle.kernel_core.specs.PlacedSections.{most_left, rows_left}

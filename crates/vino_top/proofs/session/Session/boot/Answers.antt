@@ -19,7 +19,12 @@ returns-clause-within g c =
       frames_least = c.requires.within.frames_least;
       frames_most = c.requires.within.frames_most;
       events = c.requires.within.events;
-      kernel = λ up. record { running = kernel.running; abstraction = kernel.abstraction; clock = omega (arith, kernel.clock) };
+      kernel =
+          λ up. record {
+            running = kernel.running;
+            abstraction = kernel.abstraction;
+            clock = omega (arith, kernel.clock);
+          };
       size_is = λ up. c.boot-note.ensures.size ∙ sym c.boot-note.ensures.booted.made.size;
       unbooted = λ down. up_is_down down;
     }
@@ -27,7 +32,8 @@ returns-clause-within g c =
 pub returns-clause-runs : goal.returns-clause-runs
 returns-clause-runs g c = λ keys.
     let none : c.args.out.now.lines ≡ [] = c.requires.empty.bytes_are in
-    boot_runs (place keys (g.D.Disk.seen c.args.disk.now).size) (seen_of c.args.self.now) (placed_of c.boot-note.new.self.running) c.boot-note.result _
+    boot_runs (place keys (g.D.Disk.seen c.args.disk.now).size) (seen_of c.args.self.now)
+    (placed_of c.boot-note.new.self.running) c.boot-note.result _
     (g.D.Disk.seen c.args.disk.now) (g.D.Disk.seen c.boot-note.new.disk)
     c.boot-note.ensures.booted
     (record { bytes_are = c.add.ensures.value ∙ rw none c.say_boot.ensures; no_notes = c.requires.empty.no_notes })

@@ -1,8 +1,8 @@
 -- An event goes on from the kernel as the abstract one does, and the lines of its notes are written.
 use Rattle.std.proofs.Common.{arith, refl, sym, ap, ◌∙◌}
-use Rattle.kernel_model.specs.Bare.{event_with}
-use Rattle.kernel_model.specs.Script.{Happens}
-use Rattle.kernel_model.specs.World.{World}
+use Rattle.kernel_data.specs.Bare.{event_with}
+use Rattle.script_model.specs.Script.{Happens}
+use Rattle.kernel_data.specs.World.{World}
 use Rattle.running_kernel.specs.Views.{placed_of}
 use Rattle.vino_top.specs.Run.{place}
 use Rattle.vino_top.specs.Standing.{seen_of}
@@ -43,11 +43,17 @@ returns-then-self-clause-within g c =
 
 pub returns-then-self-clause-runs : goal.returns-then-self-clause-runs
 returns-then-self-clause-runs g c = λ keys.
-    event_runs (place keys (g.D.Disk.seen c.args.disk.now).size) (seen_of c.args.self.now) (placed_of c.event.new.self.running) (event_with c.args.event c.args.out.now.bytes.items) c.event.new.trace.notes _
+    event_runs (place keys (g.D.Disk.seen c.args.disk.now).size) (seen_of c.args.self.now)
+    (placed_of c.event.new.self.running) (event_with c.args.event c.args.out.now.bytes.items)
+    c.event.new.trace.notes _
     (g.D.Disk.seen c.args.disk.now) (g.D.Disk.seen c.event.new.disk)
     c.if-self.true c.event.ensures.happened c.add_notes.ensures refl
 
 pub returns-else-self-clause-runs : goal.returns-else-self-clause-runs
 returns-else-self-clause-runs g c = λ keys.
-    unbooted_runs (place keys (g.D.Disk.seen c.args.disk.now).size) (Happens (event_with c.args.event c.args.out.now.bytes.items)) (seen_of c.args.self.now) _ (g.D.Disk.seen c.args.disk.now) (λ a rest. refl) (λ p. refl) c.if-self.false
-    c.requires.empty (silent_event (seen_of c.args.self.now).setup.frames (g.D.Disk.seen c.args.disk.now).size _ (event_with c.args.event c.args.out.now.bytes.items) c.requires.empty)
+    unbooted_runs (place keys (g.D.Disk.seen c.args.disk.now).size)
+    (Happens (event_with c.args.event c.args.out.now.bytes.items)) (seen_of c.args.self.now) _
+    (g.D.Disk.seen c.args.disk.now) (λ a rest. refl) (λ p. refl) c.if-self.false
+    c.requires.empty
+    (silent_event (seen_of c.args.self.now).setup.frames (g.D.Disk.seen c.args.disk.now).size _
+    (event_with c.args.event c.args.out.now.bytes.items) c.requires.empty)

@@ -1,7 +1,7 @@
 -- Nothing changes but the count of events.
 use Rattle.std.proofs.Common.{arith, refl, sym, ◌∙◌}
-use Rattle.kernel_model.specs.AllCalls.{all_calls}
-use Rattle.kernel_model.specs.Script.{Raw}
+use Rattle.script_model.specs.AllCalls.{all_calls}
+use Rattle.script_model.specs.Script.{Raw}
 use Rattle.placed_laws.proofs.Laws.{same_shown}
 use Rattle.vino_top.specs.Standing.{seen_of}
 use Rattle.vino_top.proofs.CallLaws.{laws_of_all_calls}
@@ -31,7 +31,12 @@ returns-then-self-clause-within g c = λ size within.
       frames_least = within.frames_least;
       frames_most = within.frames_most;
       events = omega (arith, c.requires.counted.1.fresh);
-      kernel = λ up. record { running = kernel.running; abstraction = kernel.abstraction; clock = omega (arith, kernel.clock) };
+      kernel =
+          λ up. record {
+            running = kernel.running;
+            abstraction = kernel.abstraction;
+            clock = omega (arith, kernel.clock);
+          };
       size_is = within.size_is;
       unbooted = λ down. up_is_down (sym c.if-self.true ∙ down);
     }

@@ -14,5 +14,6 @@ returns-then-self-clause-runs g c = λ place text d long.
 
 pub returns-clause-runs : goal.returns-clause-runs
 returns-clause-runs g c = λ place text d long.
-    line_too_long place (seen_of c.args.self.now) (seen_of c.refuse.new.self) text _ d c.if-self.false long (ap (λ s. seen_of s) c.refuse.ensures.state)
+    line_too_long place (seen_of c.args.self.now) (seen_of c.refuse.new.self) text _ d
+    c.if-self.false long (ap (λ s. seen_of s) c.refuse.ensures.state)
     c.refuse.ensures.text

@@ -16,17 +16,25 @@ pub raw-requires-clause-counted : goal.raw-requires-clause-counted
 raw-requires-clause-counted g c = ((g.D.Disk.seen c.args.disk.now).size, c.requires.can.counted)
 
 pub returns-in-Blank-clause-runs : goal.returns-in-Blank-clause-runs
-returns-in-Blank-clause-runs g c = rw c.in-Blank.is (blank_runs (place c.args.keys.now (g.D.Disk.seen c.args.disk.now).size) (seen_of c.args.self.now) _ (g.D.Disk.seen c.args.disk.now) c.requires.can.empty)
+returns-in-Blank-clause-runs g c =
+    rw c.in-Blank.is (blank_runs (place c.args.keys.now (g.D.Disk.seen c.args.disk.now).size)
+    (seen_of c.args.self.now) _ (g.D.Disk.seen c.args.disk.now) c.requires.can.empty)
 
 pub returns-in-Frames-clause-runs : goal.returns-in-Frames-clause-runs
-returns-in-Frames-clause-runs g c = rw c.in-Frames.is (frames_runs (place c.args.keys.now (g.D.Disk.seen c.args.disk.now).size) (seen_of c.args.self.now) c.in-Frames.n _ (g.D.Disk.seen c.args.disk.now) c.requires.can.empty)
+returns-in-Frames-clause-runs g c =
+    rw c.in-Frames.is (frames_runs (place c.args.keys.now (g.D.Disk.seen c.args.disk.now).size)
+    (seen_of c.args.self.now) c.in-Frames.n _ (g.D.Disk.seen c.args.disk.now) c.requires.can.empty)
 
 pub returns-in-Patience-clause-runs : goal.returns-in-Patience-clause-runs
 returns-in-Patience-clause-runs g c =
-    rw c.in-Patience.is (patience_runs (place c.args.keys.now (g.D.Disk.seen c.args.disk.now).size) (seen_of c.args.self.now) c.in-Patience.kind c.in-Patience.ticks c.set_patience.new.patience _ (g.D.Disk.seen c.args.disk.now) c.set_patience.ensures.value c.requires.can.empty)
+    rw c.in-Patience.is (patience_runs (place c.args.keys.now (g.D.Disk.seen c.args.disk.now).size)
+    (seen_of c.args.self.now) c.in-Patience.kind c.in-Patience.ticks c.set_patience.new.patience
+    _ (g.D.Disk.seen c.args.disk.now) c.set_patience.ensures.value c.requires.can.empty)
 
 pub returns-in-Grant-clause-runs : goal.returns-in-Grant-clause-runs
-returns-in-Grant-clause-runs g c = rw c.in-Grant.is (grant_runs (place c.args.keys.now (g.D.Disk.seen c.args.disk.now).size) (seen_of c.args.self.now) c.in-Grant.n _ (g.D.Disk.seen c.args.disk.now) c.requires.can.empty)
+returns-in-Grant-clause-runs g c =
+    rw c.in-Grant.is (grant_runs (place c.args.keys.now (g.D.Disk.seen c.args.disk.now).size)
+    (seen_of c.args.self.now) c.in-Grant.n _ (g.D.Disk.seen c.args.disk.now) c.requires.can.empty)
 
 pub returns-in-Boot-clause-runs : goal.returns-in-Boot-clause-runs
 returns-in-Boot-clause-runs g c = rw c.in-Boot.is (c.boot.ensures.runs c.args.keys.now)
@@ -35,16 +43,22 @@ pub returns-in-Happens-clause-runs : goal.returns-in-Happens-clause-runs
 returns-in-Happens-clause-runs g c = rw c.in-Happens.is (c.happen.ensures.runs c.args.keys.now)
 
 pub returns-in-Image-clause-within : goal.returns-in-Image-clause-within
-returns-in-Image-clause-within g c = c.image.ensures.within (g.D.Disk.seen c.args.disk.now).size c.requires.can.counted.within
+returns-in-Image-clause-within g c =
+    c.image.ensures.within (g.D.Disk.seen c.args.disk.now).size c.requires.can.counted.within
 
 pub returns-in-Image-clause-runs : goal.returns-in-Image-clause-runs
-returns-in-Image-clause-runs g c = rw c.in-Image.is (on_ok c.image.result (λ runs. (runs (g.D.Disk.seen c.args.disk.now).size (g.D.Disk.seen c.args.disk.now))) c.image.ensures.runs)
+returns-in-Image-clause-runs g c =
+    rw c.in-Image.is (on_ok c.image.result (λ runs. (runs (g.D.Disk.seen c.args.disk.now).size
+    (g.D.Disk.seen c.args.disk.now))) c.image.ensures.runs)
 
 pub returns-in-Raw-clause-within : goal.returns-in-Raw-clause-within
-returns-in-Raw-clause-within g c = c.raw.ensures.within (g.D.Disk.seen c.args.disk.now).size c.requires.can.counted.within
+returns-in-Raw-clause-within g c =
+    c.raw.ensures.within (g.D.Disk.seen c.args.disk.now).size c.requires.can.counted.within
 
 pub returns-in-Raw-clause-runs : goal.returns-in-Raw-clause-runs
-returns-in-Raw-clause-runs g c = rw c.in-Raw.is (c.raw.ensures.runs (place c.args.keys.now (g.D.Disk.seen c.args.disk.now).size) (g.D.Disk.seen c.args.disk.now))
+returns-in-Raw-clause-runs g c =
+    rw c.in-Raw.is (c.raw.ensures.runs (place c.args.keys.now (g.D.Disk.seen c.args.disk.now).size)
+    (g.D.Disk.seen c.args.disk.now))
 
 pub returns-in-Boot-clause-counted : goal.returns-in-Boot-clause-counted
 returns-in-Boot-clause-counted g c = ap (λ (p : Parsed). p.lines) (c.boot.ensures.runs c.args.keys.now).parsed

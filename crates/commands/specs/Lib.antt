@@ -1,0 +1,4 @@
+pub mod Views
+pub mod Filtered
+pub mod Lines
+pub mod Words

@@ -1,8 +1,0 @@
--- Without a newline the line is the whole input.
-use Rattle.std.proofs.Common.{arith}
-use Rattle.std.proofs.lemmas.Bool.Decides.{nat_tests}
-use Rattle.std.proofs.lemmas.List.Sums.{prefix_len-le-length}
-use Rattle.filters.proofs.hex_line.line_end.Goals as goal
-
-pub returns-in-None-clause-value : goal.returns-in-None-clause-value
-returns-in-None-clause-value c = grind (arith, nat_tests, prefix_len-le-length)

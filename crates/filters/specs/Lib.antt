@@ -1,4 +1,0 @@
-pub mod Views
-pub mod Filtered
-pub mod Keys
-pub mod Lines

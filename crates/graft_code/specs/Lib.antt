@@ -1,0 +1,12 @@
+pub use Rattle.kernel_data.specs.Bytes
+pub use Rattle.kernel_data.specs.ImageMask
+pub use Rattle.kernel_data.specs.Objects
+pub use Rattle.kernel_data.specs.World
+pub mod Callables
+pub mod Instructions
+pub mod Machine
+pub mod Boxed
+pub mod Runs
+pub mod SandboxClaims
+pub mod Images
+pub mod ImageTexts

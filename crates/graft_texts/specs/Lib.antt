@@ -1,0 +1,16 @@
+pub use Rattle.graft_code.specs.Boxed
+pub use Rattle.graft_code.specs.Callables
+pub use Rattle.graft_code.specs.Images
+pub use Rattle.graft_code.specs.Instructions
+pub use Rattle.graft_code.specs.Machine
+pub use Rattle.graft_code.specs.Runs
+pub use Rattle.kernel_data.specs.Bytes
+pub use Rattle.kernel_data.specs.Objects
+pub use Rattle.kernel_data.specs.World
+pub mod Assembler
+pub mod LanguageTokens
+pub mod LanguageWords
+pub mod LanguageGrammar
+pub mod LanguageReading
+pub mod LanguageMeaning
+pub mod LanguageImages

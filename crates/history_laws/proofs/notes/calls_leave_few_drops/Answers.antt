@@ -1,5 +1,0 @@
-use Rattle.history_laws.proofs.Laws.{calls_leave_few_drops}
-use Rattle.history_laws.proofs.notes.calls_leave_few_drops.Goals as goal
-
-pub returns : goal.returns
-returns g c = calls_leave_few_drops g.R.Rules.meaning g.R.Rules.laws

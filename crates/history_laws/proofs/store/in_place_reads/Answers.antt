@@ -1,5 +1,0 @@
-use Rattle.history_laws.proofs.Laws.{in_place_reads}
-use Rattle.history_laws.proofs.store.in_place_reads.Goals as goal
-
-pub returns : goal.returns
-returns g c = in_place_reads g.R.Rules.meaning

@@ -1,5 +1,0 @@
-use Rattle.history_laws.proofs.Laws.{ticks_end}
-use Rattle.history_laws.proofs.ticks.ticks_end.Goals as goal
-
-pub returns : goal.returns
-returns g c = ticks_end g.R.Rules.meaning g.R.Rules.laws

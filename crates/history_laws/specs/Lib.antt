@@ -1,3 +1,0 @@
-pub mod Notes
-pub mod SoundCalls
-pub mod Ticks

@@ -1,0 +1,9 @@
+pub mod Bytes
+pub mod World
+pub mod ImageMask
+pub mod Directory
+pub mod Objects
+pub mod Queue
+pub mod SameObject
+pub mod Policies
+pub mod Bare

@@ -1,0 +1,4 @@
+mod Joined
+mod Lanes
+mod Plain
+mod Rising

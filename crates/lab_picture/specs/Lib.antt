@@ -1,0 +1,4 @@
+pub mod Escapes
+pub mod Records
+pub mod Shapes
+pub mod Strips

@@ -1,2 +1,0 @@
-pub mod Grafts
-pub mod Sheet

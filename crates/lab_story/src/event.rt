@@ -1,0 +1,56 @@
+//! Which lines of a script are events.
+
+ghost use Rattle.std.specs.Prelude.{◌≡◌};
+ghost use Rattle.lab_story.specs.Events as spec;
+
+use text_words::Parts;
+
+/// A line of a script without its newline, and what it wrote, each line of it with its newline.
+#[derive(Clone, Copy)]
+pub struct Row<'a> {
+    /// The line.
+    pub line: &'a [u8],
+    /// What it wrote.
+    pub written: &'a [u8],
+}
+
+/// The first word of a line.
+fn first_word(line: &[u8]) -> &[u8]
+    ensures { result.now ≡ spec.first_word line.now }
+{
+    match Parts::new(line, b' ').next() {
+        Some(word) => word,
+        None => [].as_slice(),
+    }
+}
+
+/// Whether a word begins a line that stands before the events.
+fn sets_up(word: &[u8]) -> bool
+    ensures { result ≡ spec.sets_up word.now }
+{
+    word == b"frames".as_slice()
+        || word == b"patience".as_slice()
+        || word == b"grant".as_slice()
+        || word == b"boot".as_slice()
+}
+
+/// Whether a line is empty, or a remark.
+fn is_blank(line: &[u8]) -> bool
+    ensures { result ≡ spec.is_blank line.now }
+{
+    line.is_empty() || line[0] == b'#'
+}
+
+/// Whether a line of a script is an event: not blank, and not one of those up to `boot`.
+pub fn is_event(line: &[u8]) -> bool
+    ensures { result ≡ spec.is_event line.now }
+{
+    !is_blank(line) && !sets_up(first_word(line))
+}
+
+/// How many rows are events.
+pub fn count_events(rows: &[Row]) -> usize
+    ensures { result ≡ spec.event_count rows.now }
+{
+    rows.iter().filter(|row| is_event(row.line)).count()
+}

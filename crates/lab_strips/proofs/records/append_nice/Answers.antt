@@ -1,5 +1,0 @@
-use Rattle.lab_strips.proofs.Joined.{joined}
-use Rattle.lab_strips.proofs.records.append_nice.Goals as goal
-
-pub returns : goal.returns
-returns c = joined _ _ _ _ _ c.in_ok-append_word.ensures c.in_ok-append_word-2.ensures

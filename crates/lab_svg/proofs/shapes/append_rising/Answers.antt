@@ -1,7 +1,0 @@
-use Rattle.lab_svg.proofs.Rising.{risen}
-use Rattle.lab_svg.proofs.shapes.append_rising.Goals as goal
-
-pub returns : goal.returns
-returns c =
-    risen _ _ _ _ c.args.at c.in_ok-append.ensures c.in_ok-append_rotation.ensures
-    c.in_ok-append-2.ensures

@@ -1,7 +1,0 @@
-use Rattle.lab_svg.proofs.Rising.{rotated}
-use Rattle.lab_svg.proofs.shapes.append_rotation.Goals as goal
-
-pub returns : goal.returns
-returns c =
-    rotated _ _ _ _ c.args.at c.in_ok-append_counted.ensures c.in_ok-append_counted-2.ensures
-    c.in_ok-append.ensures

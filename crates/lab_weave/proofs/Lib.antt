@@ -1,2 +1,0 @@
-mod Collecting
-mod Weaving

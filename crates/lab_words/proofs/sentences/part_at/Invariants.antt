@@ -1,6 +1,0 @@
-use Rattle.std.proofs.Common.{◌≡◌, ◌==◌, drop}
-use Rattle.std.specs.List.{slice_split}
-use Rattle.lab_words.proofs.sentences.part_at.Given as goal
-
-abbrev pub invariant-loop : goal.invariant-loop
-invariant-loop l = l.parts ≡ drop l.counter (slice_split (λ b. b == l.separator) l.text)

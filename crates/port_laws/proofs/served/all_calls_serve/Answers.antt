@@ -1,5 +1,0 @@
-use Rattle.port_laws.proofs.SentLemmas.{all_calls_serve}
-use Rattle.port_laws.proofs.served.all_calls_serve.Goals as goal
-
-pub returns : goal.returns
-returns c = all_calls_serve

@@ -1,5 +1,0 @@
-use Rattle.port_laws.proofs.SentLemmas.{all_calls_tell_answers}
-use Rattle.port_laws.proofs.served.all_calls_tell_answers.Goals as goal
-
-pub returns : goal.returns
-returns c = all_calls_tell_answers

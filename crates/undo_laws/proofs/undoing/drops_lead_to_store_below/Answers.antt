@@ -1,5 +1,0 @@
-use Rattle.undo_laws.proofs.Laws.{drops_lead_to_store_below}
-use Rattle.undo_laws.proofs.undoing.drops_lead_to_store_below.Goals as goal
-
-pub returns : goal.returns
-returns g c = drops_lead_to_store_below g.R.Rules.meaning g.R.Rules.laws

@@ -1,5 +1,0 @@
-use Rattle.undo_laws.proofs.Laws.{undone_in_place}
-use Rattle.undo_laws.proofs.undoing.undone_in_place.Goals as goal
-
-pub returns : goal.returns
-returns g c = undone_in_place g.R.Rules.meaning

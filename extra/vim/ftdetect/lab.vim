@@ -1,1 +1,0 @@
-autocmd BufRead,BufNewFile *.lab,*.vino setfiletype lab
