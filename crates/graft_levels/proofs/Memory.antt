@@ -168,38 +168,39 @@ same_segment p d e ram mem cpu same lt =
     at_place i false below = refl
 
 -- data bytes, and zeros behind them
-pub filled_within : (before ram next body : List ℕ) (base i : ℕ) → base + 4096 ≤ length ram →
+pub filled_within : (before ram next body : List ℕ) (base i : ℕ) → base + 4096 ≤ length before →
     length body ≤ 4096 → i < 4096 →
-    ((a : ℕ) → slice_index ram a ≡ cond (nat_le base a && nat_lt a (base + 4096)) 0
-    (slice_index before a)) → next ≡ take base ram ++ body ++ drop (base + length body) ram →
-    slice_index next (base + i) ≡ slice_index body i
-filled_within before ram next body base i le few lt cleared is =
-    ap (λ xs. slice_index xs (base + i)) is ∙ by_place (nat_lt i (length body)) refl
+    ram ≡ take base before ++ body ++ drop (base + length body) before →
+    ((a : ℕ) → slice_index next a ≡ cond (nat_le (base + length body) a && nat_lt a (base + 4096)) 0
+    (slice_index ram a)) → slice_index next (base + i) ≡ slice_index body i
+filled_within before ram next body base i le few lt is cleared =
+    cleared (base + i) ∙ by_place (nat_lt i (length body)) refl
   where
-    by_place : (b : Bool) → nat_lt i (length body) ≡ b → slice_index
-        (take base ram ++ body ++ drop (base + length body) ram) (base + i) ≡ slice_index body i
+    by_place : (b : Bool) → nat_lt i (length body) ≡ b →
+        cond (nat_le (base + length body) (base + i) && nat_lt (base + i) (base + 4096)) 0
+        (slice_index ram (base + i)) ≡ slice_index body i
     by_place true e =
         let below : i < length body = grind (arith, nat_tests, e) in
-        copied_within ram body base i (omega (arith, le)) below
+        let apart : (nat_le (base + length body) (base + i) && nat_lt (base + i) (base + 4096)) ≡ false =
+        grind (arith, nat_tests, below) in
+        ap (λ b. cond b 0 (slice_index ram (base + i))) apart ∙ ap (λ xs. slice_index xs (base + i)) is
+        ∙ copied_within before body base i (omega (arith, le)) below
     by_place false e =
         let past : length body ≤ i = grind (arith, nat_tests, e) in
-        let among : (nat_le base (base + i) && nat_lt (base + i) (base + 4096)) ≡ true = grind (arith, nat_tests, lt) in
-        copied_apart ram body base (base + i) (omega (arith, le, few)) (inr (omega (arith, past)))
-        ∙ cleared (base + i) ∙ ap (λ b. cond b 0 (slice_index before (base + i))) among
-        ∙ sym (get_or_past body i 0 past)
+        let among : (nat_le (base + length body) (base + i) && nat_lt (base + i) (base + 4096)) ≡ true =
+        grind (arith, nat_tests, past, lt) in
+        ap (λ b. cond b 0 (slice_index ram (base + i))) among ∙ sym (get_or_past body i 0 past)
 
-pub filled_apart : (before ram next body : List ℕ) (base a : ℕ) → base + 4096 ≤ length ram →
+pub filled_apart : (before ram next body : List ℕ) (base a : ℕ) → base + 4096 ≤ length before →
     length body ≤ 4096 → (a < base) ⊎ (base + 4096 ≤ a) →
-    ((b : ℕ) → slice_index ram b ≡ cond (nat_le base b && nat_lt b (base + 4096)) 0
-    (slice_index before b)) → next ≡ take base ram ++ body ++ drop (base + length body) ram →
-    slice_index next a ≡ slice_index before a
-filled_apart before ram next body base a le few (inl below) cleared is =
-    let apart : (nat_le base a && nat_lt a (base + 4096)) ≡ false = grind (arith, nat_tests, below) in
-    ap (λ xs. slice_index xs a) is
-    ∙ copied_apart ram body base a (omega (arith, le, few)) (inl below) ∙ cleared a
-    ∙ ap (λ b. cond b 0 (slice_index before a)) apart
-filled_apart before ram next body base a le few (inr above) cleared is =
-    let apart : (nat_le base a && nat_lt a (base + 4096)) ≡ false = grind (arith, nat_tests, above) in
-    ap (λ xs. slice_index xs a) is
-    ∙ copied_apart ram body base a (omega (arith, le, few)) (inr (omega (arith, few, above)))
-    ∙ cleared a ∙ ap (λ b. cond b 0 (slice_index before a)) apart
+    ram ≡ take base before ++ body ++ drop (base + length body) before →
+    ((b : ℕ) → slice_index next b ≡ cond (nat_le (base + length body) b && nat_lt b (base + 4096)) 0
+    (slice_index ram b)) → slice_index next a ≡ slice_index before a
+filled_apart before ram next body base a le few (inl below) is cleared =
+    let apart : (nat_le (base + length body) a && nat_lt a (base + 4096)) ≡ false = grind (arith, nat_tests, below) in
+    cleared a ∙ ap (λ b. cond b 0 (slice_index ram a)) apart ∙ ap (λ xs. slice_index xs a) is
+    ∙ copied_apart before body base a (omega (arith, le, few)) (inl below)
+filled_apart before ram next body base a le few (inr above) is cleared =
+    let apart : (nat_le (base + length body) a && nat_lt a (base + 4096)) ≡ false = grind (arith, nat_tests, above) in
+    cleared a ∙ ap (λ b. cond b 0 (slice_index ram a)) apart ∙ ap (λ xs. slice_index xs a) is
+    ∙ copied_apart before body base a (omega (arith, le, few)) (inr (omega (arith, few, above)))

@@ -7,3 +7,4 @@ pub use Rattle.undo_calls.specs.UndoLevels
 pub mod Chains
 pub mod Calls
 pub mod Moments
+pub mod UserNeeds

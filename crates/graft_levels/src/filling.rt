@@ -44,8 +44,8 @@ fn fill_data(ram: &mut Ram, base: u32, body: &[u8])
         slice_index ram.new a ≡ slice_index ram.old a }
     ensures size { length ram.new ≡ 524288 }
 {
-    clear(ram, base, base + SEGMENT_BYTES);
     ram.copy_in(base, body);
+    clear(ram, base + body.len() as u32, base + SEGMENT_BYTES);
 }
 
 /// The segment at this base gets bytes, zeros behind them, and at their place the bytes that its

@@ -1,6 +1,6 @@
 //! What the next instruction needs.
 
-ghost use Rattle.std.specs.Prelude.{false, ◌≡◌, ℕ, ◌<◌, ◌≤◌, ◌==◌, ◌||◌, ◌∷◌, ◌++◌, [], List, length, slice_index, All};
+ghost use Rattle.std.specs.Prelude.{false, true, ◌≡◌, ℕ, ◌<◌, ◌≤◌, ◌==◌, ◌||◌, ◌∷◌, ◌++◌, [], List, length, slice_index, All};
 ghost use Rattle.kernel_model.specs.declared.Kind.TheVariants.{Steps};
 ghost use Rattle.kernel_model.specs.declared.Mode.TheVariants.{Shared};
 ghost use Rattle.kernel_model.specs.declared.Need.{Need as Needed};
@@ -23,6 +23,7 @@ ghost use Rattle.graft_machine.specs.Cpu.{machine_of};
 ghost use Rattle.graft_loader.specs.Slots.{table_of};
 ghost use Rattle.graft_levels.specs.Chains.{level_in, levels_in};
 ghost use Rattle.graft_levels.specs.Calls.{AreSound};
+ghost use Rattle.graft_levels.specs.UserNeeds.{needs_no_user};
 
 use crate::answers::arguments;
 use crate::code::find_image;
@@ -212,6 +213,19 @@ fn next_call(level: &GraftLevel, accounts: &Accounts, images: &Images) -> Option
     }
 }
 
+/// Whether the next instruction of a level may need a user lock: it is `take_lock`, or no callable.
+fn may_take_lock(level: &GraftLevel, accounts: &Accounts, images: &Images) -> bool
+    ensures { result ≡ false → (v : World) (p d : ℕ) (ram : List ℕ) (t : LockTable)
+        (is : List Logged) (w : Things) (ls : List Level) →
+        needs_no_user (next_needs v (table_of images.now) (accounts_of accounts.now)
+        (level_in p d ram t level.now is w ∷ ls)) ≡ true }
+{
+    match next_call(level, accounts, images) {
+        Some(id) => id == ids::TAKE_LOCK || id > LAST_CALLABLE,
+        None => false,
+    }
+}
+
 /// What the next instruction of a level needs.
 fn level_needs(level: &GraftLevel, accounts: &Accounts, images: &Images) -> Needs
     ensures value { (v : World) (p d : ℕ) (ram : List ℕ) (t : LockTable) (is : List Logged)
@@ -242,6 +256,19 @@ impl Chain {
         match self.levels.innermost() {
             Some(level) => level_needs(level, &store.accounts, images),
             None => Needs::none(),
+        }
+    }
+
+    /// Whether the next instruction may need a user lock.
+    pub fn may_take_lock<B: Policy>(&self, store: &Store<B>, images: &Images) -> bool
+        ensures { result ≡ false → (v : World) (p : ℕ) (ram : List ℕ) (t : LockTable)
+            (log : List (List Logged)) (w : Things) →
+            needs_no_user (next_needs v (table_of images.now) (objects_of store.now).accounts
+            (levels_in p ram t self.now.levels log w)) ≡ true }
+    {
+        match self.levels.innermost() {
+            Some(level) => may_take_lock(level, &store.accounts, images),
+            None => false,
         }
     }
 

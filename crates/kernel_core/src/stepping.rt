@@ -18,7 +18,7 @@ use crate::settle::settle_all;
 use crate::stretch::stretch;
 use call_pieces::{Calls, Disk, Policy};
 use kernel_model::BareNote;
-use kernel_steps::{Trace, step_in_graft};
+use kernel_steps::{Trace, step, step_in_graft};
 use running_kernel::Running;
 
 /// Process p's call, which is in a graft, blocked, and not in the order, joins it.
@@ -32,6 +32,32 @@ fn join<C: Calls, B: Policy>(running: &mut Running<C, B>, p: u8)
         (kernel_moment running.old kept d) (kernel_moment running.new kept d) }
 {
     kernel_steps::join(running, p);
+}
+
+/// The same of a call that is in a graft and doesn't wait, where no other call waits: there is no
+/// step to take then but what the instruction brings about.
+fn take_up_first<C: Calls, B: Policy, D: Disk>(
+    running: &mut Running<C, B>,
+    p: u8,
+    disk: &mut D,
+    trace: &mut Trace,
+) -> bool
+    requires at { CanRun C.Meaning.meaning running.old (D.seen disk.old) p }
+    requires level { has_some ((placed_of running.old).levels p) ≡ true }
+    requires away { in_order p (placed_of running.old).order ≡ false }
+    ensures took { result ≡ takes_up C.Meaning.meaning (placed_of running.old) p }
+    ensures went { RunsToRest C.Meaning.meaning (taken_up C.Meaning.meaning p)
+        (kernel_moment running.old trace.old.notes (D.seen disk.old))
+        (kernel_moment running.new trace.new.notes (D.seen disk.new)) }
+{
+    if running.blocker(p).is_some() {
+        join(running, p);
+        settle_all(running, disk, trace);
+        return false;
+    }
+    step(running, p, disk, trace);
+    settle_all(running, disk, trace);
+    true
 }
 
 /// Takes up an instruction of process p's call, and all steps that can be taken then: none where
@@ -54,6 +80,9 @@ fn take_up<C: Calls, B: Policy, D: Disk>(
     }
     if running.waits(p) {
         return false;
+    }
+    if running.order.is_empty() {
+        return take_up_first(running, p, disk, trace);
     }
     let needs = running.instruction_needs(p);
     if running.blocked_by(p, needs.as_slice()).is_some() {

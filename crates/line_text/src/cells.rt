@@ -31,7 +31,7 @@ pub(crate) fn hex_digits(out: &mut Cells, at: usize, bytes: &[u8]) -> usize
     ensures end { result ≡ at + 2 * length bytes.now }
 {
     let end = at + 2 * bytes.len();
-    let _ = hex::encode_to_slice(bytes, &mut out[at..end]);
+    hex_tables::encode(bytes, &mut out[at..end]);
     end
 }
 

@@ -1,11 +1,15 @@
 -- Lemmas on the mask of the processes that hold something.
-use Rattle.std.proofs.Common.{◌≡◌, ◌≢◌, ℕ, ◌<◌, Bool, true, false, ◌==◌, ◌||◌, not, List, length}
-use Rattle.std.proofs.Common.{set, refl, arith, ◌∙◌, ◌&&◌, cond, sym, ap}
+use Rattle.std.proofs.Common.{◌≡◌, ◌≢◌, ℕ, ◌<◌, Bool, true, false, ◌==◌, ◌||◌, not, List, [], ◌∷◌, length}
+use Rattle.std.proofs.Common.{set, refl, arith, ◌∙◌, ◌&&◌, cond, sym, ap, Some, None, find, is_some, nat_lt}
+use Rattle.kernel_model.specs.declared.Object.{Object}
+use Rattle.kernel_model.specs.World.{processes}
 use Rattle.std.proofs.lemmas.Bool.Decides.{nat_tests}
 use Rattle.kernel_model.specs.declared.Mode.{Mode}
 use Rattle.kernel_model.specs.declared.Held.{Held}
 use Rattle.kernel_model.specs.Objects.{at}
-use Rattle.kernel_model.specs.Locks.{stronger, held_as, no_locks}
+use Rattle.kernel_model.specs.Locks.{stronger, held_as, no_locks, lowest_holder, outermost_holding}
+use Rattle.lock_table.specs.Numbers.{number_of, is_in_range}
+use Rattle.lock_table.proofs.Hindering.{free_hinder}
 use Rattle.lock_table.specs.declared.Holds.{Holds}
 use Rattle.lock_table.specs.Masks.{held, held_by, holds_at, levels_at, masks_of, merged, HoldsSome}
 use Rattle.lock_table.specs.Takers.{has_process, HasSome, AreHolding}
@@ -141,3 +145,31 @@ none_some holding calls q are nothing =
     let none = unused (holds_at here last.number) free in
     let used = last.used in
     absurd cc
+
+-- where no process but p holds something nobody hinders p
+pub nobody_but : (holding left : ℕ) (calls : List (List Holds)) (p : ℕ) (o : Object) (mode : Mode) →
+    ((q : ℕ) → has_process left q ≡ (not (q == p) && has_process holding q)) →
+    ((q : ℕ) → has_process left q ≡ false) → AreHolding holding calls →
+    lowest_holder (held calls) p o mode ≡ None
+nobody_but holding left calls p o mode others none are =
+    none_found (λ q. not (q == p) && is_some (outermost_holding o mode (held calls q))) processes
+    (λ q. silent q (q == p) refl)
+  where
+    none_found : (test : ℕ → Bool) (xs : List ℕ) → ((x : ℕ) → test x ≡ false) → find test xs ≡ None
+    none_found test [] h = refl
+    none_found test (x ∷ xs) h = ap (λ b. cond b (Some x) (find test xs)) (h x) ∙ none_found test xs h
+
+    either : (b : Bool) → cond b Held.Free Held.Free ≡ Held.Free
+    either true = refl
+    either false = refl
+
+    silent : (q : ℕ) (b : Bool) → (q == p) ≡ b →
+        (not (q == p) && is_some (outermost_holding o mode (held calls q))) ≡ false
+    silent q true same = ap (λ b. not b && is_some (outermost_holding o mode (held calls q))) same
+    silent q false other =
+        let gone : has_process holding q ≡ false =
+        sym (ap (λ b. not b && has_process holding q) other) ∙ (sym (others q) ∙ none q) in
+        ap (λ b. not b && is_some (outermost_holding o mode (held calls q))) other
+        ∙ free_hinder (λ d. held calls q d o) mode
+        (λ d. ap (λ x. cond (nat_lt q 16 && is_in_range o) x Held.Free) (are.none q (number_of o) d gone)
+        ∙ either (nat_lt q 16 && is_in_range o))

@@ -1,19 +1,21 @@
 //! `LockTable`.
 
-ghost use Rattle.std.specs.Prelude.{◌≡◌, ℕ, ◌<◌, ◌↔◌, true, length, IfOk};
+ghost use Rattle.std.specs.Prelude.{◌≡◌, ℕ, ◌<◌, ◌↔◌, true, None, length, IfOk};
 ghost use Rattle.kernel_model.specs.World.{processes};
 ghost use Rattle.kernel_model.specs.Laws.{IsInRange};
 ghost use Rattle.kernel_model.specs.Locks.{is_held, no_locks, lowest_holder, outermost_holding};
 ghost use Rattle.kernel_model.specs.Locks.{with_touch, merge_level as level_merged};
 ghost use Rattle.kernel_model.specs.Locks.{release_from as released_inward};
 ghost use Rattle.kernel_model.specs.declared.Held.TheVariants.{Free};
+ghost use Rattle.kernel_model.specs.declared.Mode.{Mode as Wanted};
+ghost use Rattle.kernel_model.specs.declared.Object.{Object as Thing};
 ghost use Rattle.lock_table.specs.Masks.{held_by, levels_at, masks_of};
 
 use crate::call::CallHolds;
 use crate::holder::{Depth, Holder};
 use crate::levels::{NO_HOLDS, is_holding};
 use crate::numbers::object_number;
-use crate::process_masks::{is_empty, marked, with};
+use crate::process_masks::{is_empty, marked, others, with};
 use crate::rows::OBJECTS;
 use crate::taking::{lowest_other, nobody, take_at};
 use crate::{Holds, Takers};
@@ -84,6 +86,14 @@ impl LockTable {
         ensures { (result ≡ true) ↔ (held self.now ≡ no_locks) }
     {
         is_empty(self.holding)
+    }
+
+    /// Whether no process but p holds anything. Looks at one mask of processes.
+    pub fn is_free_but(&self, p: u8) -> bool
+        ensures { result ≡ true → (o : Thing) (mode : Wanted) →
+            lowest_holder (held self.now) p o mode ≡ None }
+    {
+        is_empty(others(self.holding, p))
     }
 
     /// The lowest other process whose hold on an object conflicts with a mode. Looks at one mask of

@@ -57,7 +57,7 @@ impl FileDisk {
     }
 
     /// Counts a fault.
-    fn failed(&mut self) -> Failed
+    pub(crate) fn failed(&mut self) -> Failed
         ensures size { self.new.size ≡ self.old.size }
         ensures file { self.new.file ≡ self.old.file }
         ensures later { self.old.faults ≤ self.new.faults }

@@ -6,8 +6,10 @@
 
 mod file_disk;
 mod opened;
+mod output;
 mod streams;
 
 pub use file_disk::FileDisk;
 pub use opened::open_disk;
+pub use output::{GatheringSink, OrderedDisk, Output, PromptSource};
 pub use streams::{StreamSink, StreamSource};

@@ -12,6 +12,7 @@ use Rattle.kernel_model.specs.Alone.{is_lock}
 use Rattle.kernel_data.specs.World.{processes}
 use Rattle.kernel_model.specs.Laws.{waits_for_user}
 use Rattle.running_kernel.specs.Idle.{IsFreeOfUsers}
+use Rattle.graft_levels.specs.UserNeeds.{needs_no_user}
 use Rattle.kernel_model.specs.Locks.{LockTable, Hindrance, no_locks, hinders, lowest_holder}
 use Rattle.kernel_model.specs.Locks.{user_of, user_hindrance, hindrance_by, first_hindrance}
 
@@ -82,3 +83,25 @@ other_free users p c other u waits = absurd (clash c other waits)
     clash : (c : SysCall) → is_lock c ≡ false → waits_for_user c (Lock u) ≡ true → ⊥
     clash (TakeLock l) h k = cc
     clash c h k = cc
+
+-- needs of a step that no other call hinders, and none of which waits for a user lock
+pub nobody_hinders : (t : LockTable) (users : ℕ → Option ℕ) (p q : ℕ) (ns : List Need) →
+    ((o : Object) (mode : Mode) → lowest_holder t p o mode ≡ None) → needs_no_user ns ≡ true →
+    None ≡ first_hindrance t users p q ns
+nobody_hinders t users p q [] free none = refl
+nobody_hinders t users p q (n ∷ ns) free none =
+    nobody_hinders t users p q ns free (second (not n.by_user) (needs_no_user ns) none)
+    ∙ sym (ap by_found (ap (hindrance_by users q n) (free n.object n.mode)
+    ∙ ap (λ b. cond b (user_hindrance q n.object (user_of users n.object)) None) (first n.by_user (needs_no_user ns) none)))
+  where
+    by_found : Option Hindrance → Option Hindrance
+    by_found (Some h) = Some h
+    by_found None = first_hindrance t users p q ns
+
+    first : (a b : Bool) → (not a && b) ≡ true → a ≡ false
+    first true b h = absurd cc
+    first false b h = refl
+
+    second : (a b : Bool) → (a && b) ≡ true → b ≡ true
+    second true b h = h
+    second false b h = absurd cc

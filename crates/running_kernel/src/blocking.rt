@@ -192,8 +192,9 @@ fn piece_hindrance<C: Calls, B: Policy>(
     hindrance_by_needs::<C, B>(locks, store, p, work)
 }
 
-/// What hinders the next instruction of a graft call of process p. It stands apart, so that less is
-/// done for a call that is in no graft.
+/// What hinders the next instruction of a graft call of process p. Where no other call holds
+/// anything, only `take_lock` is asked for its needs. It stands apart, so that less is done for a
+/// call that is in no graft.
 #[inline(never)]
 fn graft_hindrance<B: Policy>(
     locks: &LockTable,
@@ -209,6 +210,9 @@ fn graft_hindrance<B: Policy>(
         (next_needs (world_of_store store.now) (table_of images.now)
         (objects_of store.now).accounts ls) result }
 {
+    if locks.is_free_but(p) && !chain.may_take_lock(store, images) {
+        return None;
+    }
     let needs = chain.needs(store, images);
     first_hindrance(locks, store, p, chain.lock_user(p), needs.as_slice())
 }

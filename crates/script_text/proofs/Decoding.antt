@@ -9,7 +9,7 @@ use Rattle.hex.specs.declared.error.FromHexError.{FromHexError}
 use Rattle.hex.specs.Hex.{hex_digit_value, digit_or_error, decode_pairs, decode_of, decode_sized, ◌>>=◌}
 use Rattle.script_model.specs.Bytes.{hex_value, byte_before, hex_bytes}
 use Rattle.std.specs.List.{list_all}
-use Rattle.script_text.specs.Words.{decoded, is_hex_digit, bytes_or_none}
+use Rattle.script_text.specs.Words.{is_hex_digit, bytes_or_none}
 
 -- a digit has one value
 same_value : (c : ℕ) → hex_digit_value c ≡ hex_value c
@@ -75,17 +75,6 @@ none_is (Some bytes) h = cc
 -- digits into new bytes
 pub decode_of-ok : (text : List ℕ) → result_ok (decode_of text) ≡ hex_bytes text
 decode_of-ok text = grind (arith, nat_tests, decode_pairs-ok 0 text, hex_bytes-odd text)
-
--- digits into given bytes
-pub decode_sized-ok : (text : List ℕ) (n : ℕ) → length text ≡ 2 * n → result_ok (decode_sized text n) ≡ hex_bytes text
-decode_sized-ok text n e = grind (arith, nat_tests, decode_pairs-ok 0 text)
-
--- what `decode_to_slice` says of its bytes
-pub decoded-sized : (r : Result (List ℕ) FromHexError) (result : Result (Unit {0}) FromHexError) (out : List ℕ)
-    → MatchResult r (λ bytes. (result ≡ Ok tt) × (out ≡ bytes)) (λ e. result ≡ Err e) →
-    decoded (is_ok result) out ≡ result_ok r
-decoded-sized (Ok bytes) result out h = rw (h.0, h.1) refl
-decoded-sized (Err e) result out h = rw h refl
 
 -- an even number of digits, of which none is another byte, writes these bytes
 pub hex_bytes-some : (text : List ℕ) → length text % 2 ≡ 0 → list_all is_hex_digit text ≡ true →

@@ -59,11 +59,6 @@ abbrev pub bytes_or_none : Option (List ℕ) → List ℕ
 bytes_or_none None = []
 bytes_or_none (Some bytes) = bytes
 
--- bytes that were decoded, if they were
-abbrev pub decoded : Bool → List ℕ → Option (List ℕ)
-decoded true bytes = Some bytes
-decoded false bytes = None
-
 -- what a byte makes of a line: a newline ends it, and beyond its most bytes it is too long
 abbrev pub fed : ℕ → List ℕ → Fed
 fed byte line = cond (byte == 10) Line (cond (nat_lt (length line) LINE_BYTES) More TooLong)

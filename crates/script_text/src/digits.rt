@@ -4,7 +4,8 @@ ghost use Rattle.std.specs.Prelude.{◌≡◌, ◌≤◌, ◌==◌, length, drop
 ghost use Rattle.std.specs.List.{list_all};
 ghost use Rattle.script_model.specs.Bytes.{is_digit, is_name_byte, number_of, digits_value};
 ghost use Rattle.script_model.specs.Script.{name_word};
-ghost use Rattle.script_text.specs.Words.{decoded, word_length, IsFirstNumber};
+ghost use Rattle.hex_tables.specs.Tables.{decoded};
+ghost use Rattle.script_text.specs.Words.{word_length, IsFirstNumber};
 
 use arrayvec::ArrayVec;
 use script_model::{BLOCK_BYTES, NAME_BYTES};

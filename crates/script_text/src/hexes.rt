@@ -1,14 +1,16 @@
 //! Hex digits of either case in words.
 
-ghost use Rattle.std.specs.Prelude.{◌≡◌, ◌≤◌, ◌*◌, length};
+ghost use Rattle.std.specs.Prelude.{◌≡◌};
 ghost use Rattle.std.specs.List.{list_all};
-ghost use Rattle.script_model.specs.Bytes.{hex_bytes, hex_word};
+ghost use Rattle.script_model.specs.Bytes.{hex_word};
 ghost use Rattle.script_model.specs.Script.{WRITE_DIGITS, IMAGE_DIGITS};
-ghost use Rattle.script_text.specs.Words.{decoded, is_hex_digit};
+ghost use Rattle.hex_tables.specs.Tables.{decoded};
+ghost use Rattle.script_text.specs.Words.{is_hex_digit};
 
 use crate::ImageBytes;
 use crate::digits::put_bytes;
 use arrayvec::ArrayVec;
+use hex_tables::{decode, is_digit};
 use script_model::BLOCK_BYTES;
 
 /// The most hex digits of a `write`, a `swrite` and a `serve`.
@@ -16,14 +18,6 @@ const MOST_WRITTEN: usize = 2 * BLOCK_BYTES;
 
 /// The most hex digits of an `image`.
 const MOST_LOADED: usize = 65534;
-
-/// Writes the bytes of hex digits, two for each. False where a byte is no digit.
-fn decode_all(word: &[u8], to: &mut [u8]) -> bool
-    requires { length word.now ≡ 2 * length to.old }
-    ensures { decoded result to.new ≡ hex_bytes word.now }
-{
-    hex::decode_to_slice(word, to).is_ok()
-}
 
 /// The bytes that a `write`, a `swrite` or a `serve` carries, which go to `bytes`: 2 to 1,024 hex
 /// digits, an even number. Whether the word is such.
@@ -35,14 +29,7 @@ pub(crate) fn written(word: &[u8], bytes: &mut ArrayVec<u8, BLOCK_BYTES>) -> boo
     }
     // As many bytes as the word has, to be written over: no block is cleared for them.
     put_bytes(&word[..word.len() / 2], bytes);
-    decode_all(word, bytes.as_mut_slice())
-}
-
-/// Whether a byte is a hex digit of either case.
-fn is_digit(byte: u8) -> bool
-    ensures { result ≡ is_hex_digit byte }
-{
-    byte.is_ascii_hexdigit()
+    decode(word, bytes.as_mut_slice())
 }
 
 /// Whether all bytes of a word are hex digits.

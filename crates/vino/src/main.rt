@@ -5,10 +5,14 @@ use graft_points::{
     Policy, RaNext, RaNone, RaSeq, SchedNice, SchedRound, VictimLru, VictimMark, is_stock, put_last,
 };
 use mem_disk::{Disk, MemDisk};
-use real_edge::{StreamSink, StreamSource, open_disk};
+use real_edge::{GatheringSink, OrderedDisk, Output, PromptSource, open_disk};
 use std::alloc::AllocError;
 use std::process::ExitCode;
+use std::rt::Stdout;
 use std::{env, io};
+
+/// The status where a write of what was gathered failed.
+const OUTPUT_FAILED: u8 = 4;
 
 /// The status where main itself found no memory.
 const NO_MEMORY: u8 = 5;
@@ -22,30 +26,46 @@ fn main(rt: HostRuntime) -> ExitCode {
     })
 }
 
-/// Does what the words ask, over the file that they name or else over the sample disk: the exit
-/// status.
+/// Does what the words ask: the exit status.
 fn run_words(rt: &HostRuntime, words: &[String]) -> u8 {
+    run_gathered(rt, words).unwrap_or(NO_MEMORY)
+}
+
+/// Does what the words ask, and writes what is gathered then: the exit status, or none for want of
+/// memory before anything was done.
+fn run_gathered(rt: &HostRuntime, words: &[String]) -> Option<u8> {
+    let output = Output::new(rt.alloc(), rt.stdout()).ok()?;
+    let status = run_over_disk(rt, words, &output)?;
+    if output.hand_on() {
+        return Some(status);
+    }
+    Some(OUTPUT_FAILED)
+}
+
+/// Does what the words ask, over the file that they name or else over the sample disk.
+fn run_over_disk(rt: &HostRuntime, words: &[String], output: &Output<Stdout>) -> Option<u8> {
     match words {
         [word, _, path] if word.as_str() == "run" => {
-            let mut disk = open_disk(rt, path.as_str());
-            run_over(rt, words, &mut disk)
+            let mut disk = OrderedDisk::new(open_disk(rt, path.as_str()), output);
+            run_stock(rt, words, output, &mut disk).ok()
         }
-        _ => match MemDisk::sample(rt.alloc(), Vec::new(rt.alloc())) {
-            Ok(mut disk) => run_over(rt, words, &mut disk),
-            Err(_) => NO_MEMORY,
-        },
+        _ => {
+            let mut disk = MemDisk::sample(rt.alloc(), Vec::new(rt.alloc())).ok()?;
+            run_stock(rt, words, output, &mut disk).ok()
+        }
     }
 }
 
-/// Does what the words ask over a disk, the real streams and the stock policies: the exit status.
-fn run_over<D: Disk>(rt: &HostRuntime, words: &[String], disk: &mut D) -> u8 {
-    run_stock(rt, words, disk).unwrap_or(NO_MEMORY)
-}
-
-fn run_stock<D: Disk>(rt: &HostRuntime, words: &[String], disk: &mut D) -> Result<u8, AllocError> {
+/// Does what the words ask over a disk, the real streams and the stock policies.
+fn run_stock<D: Disk>(
+    rt: &HostRuntime,
+    words: &[String],
+    output: &Output<Stdout>,
+    disk: &mut D,
+) -> Result<u8, AllocError> {
     let alloc = rt.alloc();
-    let mut source = StreamSource::new(rt.stdin());
-    let mut sink = StreamSink::new(rt.stdout());
+    let mut source = PromptSource::new(rt.stdin(), output);
+    let mut sink = GatheringSink::new(output);
     let mut shelf: Vec<Box<dyn Policy>> = Vec::new(alloc);
     put_last(&mut shelf, Box::new(alloc, RaNone::new())?, 0, None)?;
     put_last(&mut shelf, Box::new(alloc, RaSeq::new())?, 1, Some(2))?;
