@@ -81,16 +81,22 @@ impl Kernel {
         if self.calls[process].depth > 0 {
             return self.blocker_in_graft(process);
         }
-        if self.in_graft != 0 {
-            let mut look = |object, mode| self.in_the_way(process, object, mode);
-            if let Break(blocker) = self.needs(process, &mut look) {
-                return Some(blocker);
-            }
+        if self.in_graft != 0
+            && let Break(blocker) = self.look_at_needs(process)
+        {
+            return Some(blocker);
         }
         match self.calls[process].request {
             Request::Lock { lock } => self.owner_in_the_way(process, lock as usize),
             _ => None,
         }
+    }
+
+    /// The call that is in the way at an object of a call's next piece. It stands apart, since less
+    /// is done where no graft runs.
+    #[inline(never)]
+    fn look_at_needs(&self, process: usize) -> Look<Blocker> {
+        self.needs(process, &mut |object, mode| self.in_the_way(process, object, mode))
     }
 
     /// The call that is in the way at an object.
@@ -313,6 +319,7 @@ impl Kernel {
                 }
                 let (image, billed, has_kept) = (image as u8, false, false);
                 *place = Some(Graft { image, limit, billed, has_kept, has: [0; 3] });
+                store.standing[process] |= 1 << point;
             }
             Request::Remove { point } => {
                 check(grafts[point as usize].is_some(), Refusal::NoGraft)?;

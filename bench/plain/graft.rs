@@ -29,8 +29,9 @@ pub struct Level {
     pub counter: u32,
     pub taken: u32,
     pub first_record: usize,
-    /// The place of its segment.
+    /// The place of its segment, and whether that is kept.
     pub segment: u16,
+    pub keeps: bool,
     pub registers: [u32; 16],
 }
 
@@ -43,6 +44,7 @@ impl Level {
             taken: 0,
             first_record: 0,
             segment: 0,
+            keeps: false,
             registers: [0; 16],
         }
     }
@@ -178,27 +180,39 @@ impl Kernel {
         let depth = self.calls[process].depth;
         let graft = self.store.grafts[q][point].as_ref().expect("a graft stands there");
         let image = self.images[usize::from(graft.image)].as_ref().expect("its image is loaded");
-        let own = Slot::of_level(process, depth);
-        let seen = if image.has_access { 0..SEGMENT } else { FED..FED + BLOCK };
+        let keeps = image.keeps;
         if image.has_access || point >= FIRST_PORT {
-            match (graft.has_kept, depth) {
-                // A drop of the outermost level takes its graft out, and what is kept for it.
-                (true, 0) => self.segments.swap(own, Slot::kept(q, point)),
-                (true, _) => self.segments.copy(own, Slot::kept(q, point)),
-                (false, _) => self.segments.fill(own, &image.data, seen),
-            }
+            self.begin_segment(process, depth, q, point);
         }
         let call = &mut self.calls[process];
         let level = &mut call.levels[depth];
-        *level = Level { process: q as u8, point: point as u8, ..Level::none() };
+        *level = Level { process: q as u8, point: point as u8, keeps, ..Level::none() };
         level.first_record = call.changes;
-        level.segment = self.segments.place(own);
+        level.segment = self.segments.place(Slot::of_level(process, depth));
         level.registers[..4].copy_from_slice(&args);
         level.registers[15] = FIRST_SEGMENT + (SEGMENT * (LEVELS * process + depth)) as u32;
         call.depth += 1;
+    }
+
+    /// The segment of a level that begins: what its graft keeps, or the data of its image, and what
+    /// it is fed. Code without an access sees no more than that.
+    #[inline(never)]
+    fn begin_segment(&mut self, process: usize, depth: usize, q: usize, point: usize) {
+        let own = Slot::of_level(process, depth);
+        let graft = self.store.grafts[q][point].as_ref().expect("a graft stands there");
+        let image = self.images[usize::from(graft.image)].as_ref().expect("its image is loaded");
+        let seen = if image.has_access { 0..SEGMENT } else { FED..FED + BLOCK };
+        match (graft.has_kept, depth) {
+            // A drop of the outermost level takes its graft out, and what is kept for it.
+            (true, 0) => self.segments.swap(own, Slot::kept(q, point)),
+            (true, _) => self.segments.copy(own, Slot::kept(q, point)),
+            (false, _) => self.segments.fill(own, &image.data, seen),
+        }
         if point >= FIRST_PORT {
+            let call = &self.calls[process];
             let fed = &call.bytes[..call.length];
-            self.segments.at_mut(level.segment)[FED..FED + fed.len()].copy_from_slice(fed);
+            let place = self.segments.place(own);
+            self.segments.at_mut(place)[FED..FED + fed.len()].copy_from_slice(fed);
         }
     }
 
@@ -215,11 +229,12 @@ impl Kernel {
         let image = self.images[image].as_ref().expect("its image is loaded");
         let funds = self.store.funds(q, point);
         let budget = u64::from(most.min(limit - level.taken)).min(funds) as u32;
+        let segment = self.segments.at_mut(level.segment);
         let machine = Machine {
             code: &image.code,
             registers: &mut level.registers,
             counter: &mut level.counter,
-            segment: self.segments.at_mut(level.segment),
+            segment,
         };
         let store = &self.store;
         let holdings = &self.holdings;
@@ -278,7 +293,7 @@ impl Kernel {
             let cause = Cause::RefusedAnswer(answer[0], answer[1]);
             return self.drop_level(process, depth, cause);
         }
-        if !self.keep(process, depth, q, point) {
+        if level.keeps && !self.keep(process, depth, q, point) {
             return self.drop_level(process, depth, Cause::SpentRecords);
         }
         let call = &mut self.calls[process];
@@ -292,14 +307,11 @@ impl Kernel {
         self.finish(process, Some(answer));
     }
 
-    /// Keeps the segment of the innermost level, which has answered, where its image says so. Says
-    /// whether there was a record for that.
+    /// Keeps the segment of the innermost level, which has answered. Says whether there was a record
+    /// for that.
+    #[inline(never)]
     fn keep(&mut self, process: usize, depth: usize, q: usize, point: usize) -> bool {
         let graft = self.store.grafts[q][point].as_mut().expect("it stands");
-        let image = self.images[usize::from(graft.image)].as_ref().expect("its image is loaded");
-        if !image.keeps {
-            return true;
-        }
         let was_kept = std::mem::replace(&mut graft.has_kept, true);
         let call = &mut self.calls[process];
         let record = call.changes;

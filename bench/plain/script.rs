@@ -23,6 +23,9 @@ pub enum Request {
     Close { descriptor: u32 },
     Read { descriptor: u32, block: u32, offset: u32, length: u32 },
     Write { descriptor: u32, block: u32, offset: u32 },
+    StreamWrite { descriptor: u32, block: u32, offset: u32 },
+    Serve { port: u32 },
+    StreamRead { descriptor: u32, block: u32, offset: u32, length: u32 },
     Lock { lock: u32 },
     Unlock { lock: u32 },
     Poke { cell: u32, value: u32 },
@@ -34,9 +37,6 @@ pub enum Request {
     Remove { point: u32 },
     Fund { point: u32, amount: u8, count: u32 },
     Bill { point: u32 },
-    Serve { port: u32 },
-    StreamRead { descriptor: u32, block: u32, offset: u32, length: u32 },
-    StreamWrite { descriptor: u32, block: u32, offset: u32 },
 }
 
 impl Request {

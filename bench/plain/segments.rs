@@ -51,14 +51,12 @@ impl Segments {
 
     #[inline]
     pub fn at(&self, place: u16) -> &[u8; SEGMENT] {
-        let segment = self.bytes[usize::from(place) * SEGMENT..].first_chunk();
-        segment.expect("a segment stands at each place")
+        &self.bytes.as_chunks().0[usize::from(place)]
     }
 
     #[inline]
     pub fn at_mut(&mut self, place: u16) -> &mut [u8; SEGMENT] {
-        let segment = self.bytes[usize::from(place) * SEGMENT..].first_chunk_mut();
-        segment.expect("a segment stands at each place")
+        &mut self.bytes.as_chunks_mut().0[usize::from(place)]
     }
 
     /// A part of the segment of a slot becomes what it is where these bytes stand at the beginning

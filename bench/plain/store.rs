@@ -101,6 +101,8 @@ pub struct Store {
     pub files: [[Option<Open>; FILES]; PROCESSES],
     pub accounts: [Account; PROCESSES],
     pub grafts: [[Option<Graft>; POINTS]; PROCESSES],
+    /// The points of each process at which a graft stands, as bits.
+    pub standing: [u16; PROCESSES],
     pub locks: [Option<u8>; USER_LOCKS],
     pub policies: [Policies; 3],
     pub handlers: [Handlers; PORTS],
@@ -122,6 +124,7 @@ impl Store {
             files: [[None; FILES]; PROCESSES],
             accounts,
             grafts: [[None; POINTS]; PROCESSES],
+            standing: [0; PROCESSES],
             locks: [None; USER_LOCKS],
             policies: [
                 Policies { chosen: 1, parameters: [0, 2, 1] },
@@ -180,8 +183,8 @@ impl Store {
                 *lock = None;
             }
         }
-        for point in 0..POINTS {
-            self.remove(process, point);
+        while self.standing[process] != 0 {
+            self.remove(process, self.standing[process].trailing_zeros() as usize);
         }
         for handlers in &mut self.handlers {
             handlers.forget(process);
@@ -197,6 +200,7 @@ impl Store {
 
     /// The graft at a point is taken out. What it has goes to its process.
     pub fn remove(&mut self, process: usize, point: usize) {
+        self.standing[process] &= !(1 << point);
         if let Some(graft) = self.grafts[process][point].take() {
             for (has, left) in self.accounts[process].has.iter_mut().zip(graft.has) {
                 *has += left;

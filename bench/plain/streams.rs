@@ -60,6 +60,7 @@ impl Kernel {
     }
 
     /// A handler has answered, or it was dropped.
+    #[inline(never)]
     pub fn finish_handler(&mut self, process: usize, answer: Option<[u32; 2]>) -> Done {
         let call = &mut self.calls[process];
         if let Some([count, _]) = answer {
@@ -120,6 +121,7 @@ impl Kernel {
     }
 
     /// The bytes of a stream have come out of their point, or stay as they are.
+    #[inline(never)]
     pub fn finish_stream(&mut self, process: usize, answer: Option<[u32; 2]>) -> Done {
         let call = &mut self.calls[process];
         let bytes = &mut call.bytes[..call.length];
