@@ -4,6 +4,7 @@ use crate::disk::BLOCK;
 use crate::kernel::{Blocker, Done, IMAGES, Kernel, Next, Refusal};
 use crate::object::Mode::{self, Exclusive, Shared};
 use crate::object::Object;
+use crate::ports::PORTS;
 use crate::script::Request;
 use crate::store::*;
 use std::ops::ControlFlow::{self, Break, Continue};
@@ -34,10 +35,12 @@ impl Kernel {
                 Refusal::NoSuchFile,
             ),
             Request::Close { descriptor } => open(descriptor),
-            Request::Read { descriptor, offset, length, .. } => {
+            Request::Read { descriptor, offset, length, .. }
+            | Request::StreamRead { descriptor, offset, length, .. } => {
                 open(descriptor).and_then(|()| in_block(offset, length))
             }
-            Request::Write { descriptor, offset, .. } => {
+            Request::Write { descriptor, offset, .. }
+            | Request::StreamWrite { descriptor, offset, .. } => {
                 open(descriptor).and_then(|()| in_block(offset, bytes as u32))
             }
             Request::Lock { lock } | Request::Unlock { lock } => {
@@ -54,6 +57,7 @@ impl Kernel {
             }
             Request::Remove { point: at } | Request::Bill { point: at } => point(at),
             Request::Fund { point: at, .. } => point(at),
+            Request::Serve { port } => check(port < PORTS as u32, Refusal::OutOfRange),
         }
     }
 
@@ -77,16 +81,22 @@ impl Kernel {
         if self.calls[process].depth > 0 {
             return self.blocker_in_graft(process);
         }
-        if self.in_graft != 0 {
-            let mut look = |object, mode| self.in_the_way(process, object, mode);
-            if let Break(blocker) = self.needs(process, &mut look) {
-                return Some(blocker);
-            }
+        if self.in_graft != 0
+            && let Break(blocker) = self.look_at_needs(process)
+        {
+            return Some(blocker);
         }
         match self.calls[process].request {
             Request::Lock { lock } => self.owner_in_the_way(process, lock as usize),
             _ => None,
         }
+    }
+
+    /// The call that is in the way at an object of a call's next piece. It stands apart, since less
+    /// is done where no graft runs.
+    #[inline(never)]
+    fn look_at_needs(&self, process: usize) -> Look<Blocker> {
+        self.needs(process, &mut |object, mode| self.in_the_way(process, object, mode))
     }
 
     /// The call that is in the way at an object.
@@ -139,6 +149,10 @@ impl Kernel {
             }
             Request::Close { descriptor } => look(Object::file(p, descriptor as usize), Exclusive),
             Request::Read { .. } | Request::Write { .. } => self.needs_of_file(p, look),
+            Request::Serve { .. } => self.needs_of_event(p, look),
+            Request::StreamRead { .. } | Request::StreamWrite { .. } => {
+                self.needs_of_stream(p, look)
+            }
             Request::Lock { lock } | Request::Unlock { lock } => {
                 look(Object::lock(lock as usize), Exclusive)
             }
@@ -168,18 +182,40 @@ impl Kernel {
                 }
                 look(Object::account(to as usize), Exclusive)
             }
-            Request::Install { point, .. } | Request::Bill { point } => {
-                look(Object::graft(process, point as usize), Exclusive)
+            Request::Bill { point } => look(Object::graft(process, point as usize), Exclusive),
+            Request::Install { point, .. } => {
+                look(Object::graft(process, point as usize), Exclusive)?;
+                self.needs_of_handlers(process, point as usize, false, look)
             }
-            Request::Remove { point } | Request::Fund { point, .. } => {
-                self.needs_of_point(process, point as usize, look)
+            Request::Remove { point } => {
+                self.needs_of_point(process, point as usize, look)?;
+                self.needs_of_handlers(process, point as usize, true, look)
             }
+            Request::Fund { point, .. } => self.needs_of_point(process, point as usize, look),
             _ => Continue(()),
         }
     }
 
+    /// The queue, where a graft comes to or goes from a point of a port that is so.
+    fn needs_of_handlers<B, F>(
+        &self,
+        process: usize,
+        point: usize,
+        is_taken: bool,
+        look: &mut F,
+    ) -> Look<B>
+    where
+        F: FnMut(Object, Mode) -> Look<B>,
+    {
+        let changes = self.store.grafts[process][point].is_some() == is_taken;
+        if changes && port_of(point).is_some() {
+            return look(Object::QUEUE, Exclusive);
+        }
+        Continue(())
+    }
+
     /// A point, and where a graft stands there, what may pay for it.
-    fn needs_of_point<B, F>(&self, process: usize, point: usize, look: &mut F) -> Look<B>
+    pub fn needs_of_point<B, F>(&self, process: usize, point: usize, look: &mut F) -> Look<B>
     where
         F: FnMut(Object, Mode) -> Look<B>,
     {
@@ -190,19 +226,21 @@ impl Kernel {
         }
     }
 
-    /// The pieces of `read` and `write`.
-    fn needs_of_file<B, F>(&self, process: usize, look: &mut F) -> Look<B>
+    /// The pieces of `read` and `write`, and those of streams that fetch a block.
+    pub fn needs_of_file<B, F>(&self, process: usize, look: &mut F) -> Look<B>
     where
         F: FnMut(Object, Mode) -> Look<B>,
     {
         let call = &self.calls[process];
         let (descriptor, mode) = match call.request {
             Request::Read { descriptor, .. } => (descriptor as usize, Exclusive),
-            Request::Write { descriptor, .. } => (descriptor as usize, Shared),
+            Request::Write { descriptor, .. }
+            | Request::StreamRead { descriptor, .. }
+            | Request::StreamWrite { descriptor, .. } => (descriptor as usize, Shared),
             _ => return Continue(()),
         };
         look(Object::file(process, descriptor), mode)?;
-        if call.stage == 1 {
+        if call.stage == 1 && mode == Exclusive {
             look(Object::policy(AHEAD), Shared)?;
             return self.needs_of_point(process, descriptor, look);
         }
@@ -238,6 +276,13 @@ impl Kernel {
             }
             Request::Read { descriptor, .. } => self.read(process, descriptor as usize),
             Request::Write { .. } => self.fetch(process),
+            Request::Serve { port } => self.serve(process, port),
+            Request::StreamRead { descriptor, block, offset, .. } => {
+                self.stream_read(process, [block, offset, descriptor])
+            }
+            Request::StreamWrite { descriptor, block, offset } => {
+                self.stream_write(process, [block, offset, descriptor])
+            }
             Request::Lock { lock } => self.lock(process, lock as usize),
             Request::Unlock { lock } => self.unlock(process, lock as usize),
             Request::Poke { cell, value } => {
@@ -269,11 +314,19 @@ impl Kernel {
             Request::Install { point, image, limit } => {
                 let place = &mut grafts[point as usize];
                 check(place.is_none(), Refusal::Taken)?;
-                *place = Some(Graft { image: image as u8, limit, billed: false, has: [0; 3] });
+                if let Some(port) = port_of(point as usize) {
+                    check(store.handlers[port].add(process), Refusal::PortFull)?;
+                }
+                let (image, billed, has_kept) = (image as u8, false, false);
+                *place = Some(Graft { image, limit, billed, has_kept, has: [0; 3] });
+                store.standing[process] |= 1 << point;
             }
             Request::Remove { point } => {
                 check(grafts[point as usize].is_some(), Refusal::NoGraft)?;
                 store.remove(process, point as usize);
+                if let Some(port) = port_of(point as usize) {
+                    store.handlers[port].forget(process);
+                }
             }
             Request::Fund { point, amount, count } => {
                 let graft = grafts[point as usize].as_mut().ok_or(Refusal::NoGraft)?;
@@ -375,15 +428,17 @@ impl Kernel {
 
     // ---- fetching
 
-    /// The disk's block that a piece of `read` or `write` fetches.
+    /// The disk's block that a piece of a call fetches, which is about a file.
     #[inline]
-    fn wanted(&self, process: usize) -> Result<u32, Refusal> {
+    pub fn wanted(&self, process: usize) -> Result<u32, Refusal> {
         let call = &self.calls[process];
         let (descriptor, block, end) = match call.request {
-            Request::Read { descriptor, block, offset, length } => {
+            Request::Read { descriptor, block, offset, length }
+            | Request::StreamRead { descriptor, block, offset, length } => {
                 (descriptor, block, offset + length)
             }
-            Request::Write { descriptor, block, offset } => {
+            Request::Write { descriptor, block, offset }
+            | Request::StreamWrite { descriptor, block, offset } => {
                 (descriptor, block, offset + call.length as u32)
             }
             _ => return Err(Refusal::OutOfRange),
@@ -407,7 +462,7 @@ impl Kernel {
     }
 
     /// Fetches the block that is wanted, up to the graft that is asked whom to evict.
-    fn fetch(&mut self, process: usize) -> Done {
+    pub fn fetch(&mut self, process: usize) -> Done {
         let block = self.wanted(process)?;
         let cache = &mut self.store.cache;
         if let Some(frame) = cache.find(block) {
@@ -442,10 +497,16 @@ impl Kernel {
             Request::Read { descriptor, block, offset, length } => {
                 (descriptor, block, offset, length)
             }
-            Request::Write { offset, .. } => {
+            Request::Write { offset, .. } | Request::StreamWrite { offset, .. } => {
                 let bytes = &call.bytes[..call.length];
                 self.store.cache.patch(frame, offset as usize, bytes);
                 return Ok(Next::End(None));
+            }
+            Request::StreamRead { offset, length, .. } => {
+                (call.stage, call.length) = (1, length as usize);
+                let bytes = &self.store.cache.bytes(frame)[offset as usize..][..call.length];
+                call.bytes[..call.length].copy_from_slice(bytes);
+                return Ok(Next::Piece);
             }
             _ => return Ok(Next::End(None)),
         };
@@ -460,10 +521,7 @@ impl Kernel {
         file.sequential = block == file.next;
         file.next = block + 1;
         let bytes = &self.store.cache.bytes(frame)[offset as usize..][..length as usize];
-        self.text.number(u64::from(call.number));
-        self.text.word(if bytes.is_empty() { " data" } else { " data " });
-        self.text.hex(bytes);
-        self.text.end();
+        self.text.data(call.number, bytes);
         Ok(Next::Piece)
     }
 
@@ -485,6 +543,9 @@ impl Kernel {
                     self.finish_ahead(process, descriptor, start, count)
                 })
             }
+            Request::Serve { .. } => self.finish_handler(process, answer),
+            Request::StreamRead { .. } if call.stage == 1 => self.finish_stream(process, answer),
+            Request::StreamWrite { .. } if call.stage == 0 => self.finish_stream(process, answer),
             _ => {
                 let candidate = self.candidate().0;
                 let frame = answer.map_or(candidate, |answer| answer[0] as usize);
@@ -493,6 +554,11 @@ impl Kernel {
         };
         self.conclude(process, done);
     }
+}
+
+/// The port whose events are handled at a point.
+fn port_of(point: usize) -> Option<usize> {
+    (FIRST_PORT..OUT).contains(&point).then(|| point - FIRST_PORT)
 }
 
 /// So much is taken from a balance.

@@ -1,16 +1,20 @@
 //! Grafts that run: their levels, what they may call, and how they are dropped.
 
 use crate::calls::Look;
+use crate::disk::BLOCK;
 use crate::kernel::{Blocker, Done, Kernel, LEVELS, Next, RECORDS_OF_A_CALL};
-use crate::machine::{Machine, Operation, Stop};
+use crate::machine::{Machine, Operation, SEGMENT, Stop};
 use crate::object::Mode::{self, Exclusive, Shared};
 use crate::object::Object;
+use crate::segments::Slot;
 use crate::store::*;
 use std::ops::ControlFlow::{Break, Continue};
 
 /// The address of the first segment.
 const FIRST_SEGMENT: u32 = 0x40000;
-const SEGMENT_BYTES: u32 = 4_096;
+
+/// The place in a segment from which on bytes are fed to a graft, and are what it gives.
+pub const FED: usize = 2_048;
 
 /// The first of the ids that ask a point.
 const FIRST_ASK: u32 = 13;
@@ -25,16 +29,29 @@ pub struct Level {
     pub counter: u32,
     pub taken: u32,
     pub first_record: usize,
+    /// The place of its segment, and whether that is kept.
+    pub segment: u16,
+    pub keeps: bool,
     pub registers: [u32; 16],
 }
 
 impl Level {
     pub fn none() -> Level {
-        Level { process: 0, point: 0, counter: 0, taken: 0, first_record: 0, registers: [0; 16] }
+        Level {
+            process: 0,
+            point: 0,
+            counter: 0,
+            taken: 0,
+            first_record: 0,
+            segment: 0,
+            keeps: false,
+            registers: [0; 16],
+        }
     }
 }
 
-/// A change, by what puts it back.
+/// A change, by what puts it back. The segment that a graft kept before, if it did, stands at the
+/// place of the record.
 #[derive(Clone, Copy)]
 pub enum Change {
     Cell { process: u8, cell: u8, value: u32 },
@@ -42,6 +59,7 @@ pub enum Change {
     Window { process: u8, descriptor: u8, value: u32 },
     Mark { frame: u8, value: u32 },
     Tune { kind: u8, parameter: u8, value: u32 },
+    Segment { process: u8, point: u8, was_kept: bool },
 }
 
 /// Why a level is dropped.
@@ -159,20 +177,42 @@ impl Kernel {
     }
 
     fn begin_level(&mut self, process: usize, q: usize, point: usize, args: [u32; 4]) {
-        let call = &mut self.calls[process];
-        let slot = LEVELS * process + call.depth;
-        let level = &mut call.levels[call.depth];
-        *level = Level { process: q as u8, point: point as u8, ..Level::none() };
-        level.first_record = call.changes;
-        level.registers[..4].copy_from_slice(&args);
-        level.registers[15] = FIRST_SEGMENT + SEGMENT_BYTES * slot as u32;
-        call.depth += 1;
+        let depth = self.calls[process].depth;
         let graft = self.store.grafts[q][point].as_ref().expect("a graft stands there");
         let image = self.images[usize::from(graft.image)].as_ref().expect("its image is loaded");
-        if image.has_access {
-            let segment = &mut self.segments[slot];
-            segment[..image.data.len()].copy_from_slice(&image.data);
-            segment[image.data.len()..].fill(0);
+        let keeps = image.keeps;
+        if image.has_access || point >= FIRST_PORT {
+            self.begin_segment(process, depth, q, point);
+        }
+        let call = &mut self.calls[process];
+        let level = &mut call.levels[depth];
+        *level = Level { process: q as u8, point: point as u8, keeps, ..Level::none() };
+        level.first_record = call.changes;
+        level.segment = self.segments.place(Slot::of_level(process, depth));
+        level.registers[..4].copy_from_slice(&args);
+        level.registers[15] = FIRST_SEGMENT + (SEGMENT * (LEVELS * process + depth)) as u32;
+        call.depth += 1;
+    }
+
+    /// The segment of a level that begins: what its graft keeps, or the data of its image, and what
+    /// it is fed. Code without an access sees no more than that.
+    #[inline(never)]
+    fn begin_segment(&mut self, process: usize, depth: usize, q: usize, point: usize) {
+        let own = Slot::of_level(process, depth);
+        let graft = self.store.grafts[q][point].as_ref().expect("a graft stands there");
+        let image = self.images[usize::from(graft.image)].as_ref().expect("its image is loaded");
+        let seen = if image.has_access { 0..SEGMENT } else { FED..FED + BLOCK };
+        match (graft.has_kept, depth) {
+            // A drop of the outermost level takes its graft out, and what is kept for it.
+            (true, 0) => self.segments.swap(own, Slot::kept(q, point)),
+            (true, _) => self.segments.copy(own, Slot::kept(q, point)),
+            (false, _) => self.segments.fill(own, &image.data, seen),
+        }
+        if point >= FIRST_PORT {
+            let call = &self.calls[process];
+            let fed = &call.bytes[..call.length];
+            let place = self.segments.place(own);
+            self.segments.at_mut(place)[FED..FED + fed.len()].copy_from_slice(fed);
         }
     }
 
@@ -189,11 +229,12 @@ impl Kernel {
         let image = self.images[image].as_ref().expect("its image is loaded");
         let funds = self.store.funds(q, point);
         let budget = u64::from(most.min(limit - level.taken)).min(funds) as u32;
+        let segment = self.segments.at_mut(level.segment);
         let machine = Machine {
             code: &image.code,
             registers: &mut level.registers,
             counter: &mut level.counter,
-            segment: &mut self.segments[LEVELS * process + depth],
+            segment,
         };
         let store = &self.store;
         let holdings = &self.holdings;
@@ -243,10 +284,19 @@ impl Kernel {
         let level = &call.levels[depth];
         let (q, point) = (usize::from(level.process), usize::from(level.point));
         let answer = [level.registers[0], level.registers[1]];
-        if !self.store.accepts(q, point, answer) {
+        let accepted = match point {
+            IN | OUT => answer[0] as usize == call.length,
+            FIRST_PORT.. => answer[0] as usize <= BLOCK,
+            _ => self.store.accepts(q, point, answer),
+        };
+        if !accepted {
             let cause = Cause::RefusedAnswer(answer[0], answer[1]);
             return self.drop_level(process, depth, cause);
         }
+        if level.keeps && !self.keep(process, depth, q, point) {
+            return self.drop_level(process, depth, Cause::SpentRecords);
+        }
+        let call = &mut self.calls[process];
         call.depth = depth;
         if depth > 0 {
             self.holdings.merge(process, depth);
@@ -255,6 +305,28 @@ impl Kernel {
         self.holdings.release(process, 0);
         self.in_graft &= !(1 << process);
         self.finish(process, Some(answer));
+    }
+
+    /// Keeps the segment of the innermost level, which has answered. Says whether there was a record
+    /// for that.
+    #[inline(never)]
+    fn keep(&mut self, process: usize, depth: usize, q: usize, point: usize) -> bool {
+        let graft = self.store.grafts[q][point].as_mut().expect("it stands");
+        let was_kept = std::mem::replace(&mut graft.has_kept, true);
+        let call = &mut self.calls[process];
+        let record = call.changes;
+        if record == RECORDS_OF_A_CALL || !self.store.pay(q, point, RECORDS) {
+            return false;
+        }
+        let kept = Slot::kept(q, point);
+        if depth > 0 {
+            let (q, point) = (q as u8, point as u8);
+            call.records[record] = Change::Segment { process: q, point, was_kept };
+            call.changes += 1;
+            self.segments.swap(kept, Slot::before(process, record));
+        }
+        self.segments.swap(kept, Slot::of_level(process, depth));
+        true
     }
 
     /// The innermost level is told the answer of the point that it asked.
@@ -273,8 +345,12 @@ impl Kernel {
         let call = &mut self.calls[process];
         let level = &call.levels[depth];
         let (q, point) = (usize::from(level.process), usize::from(level.point));
-        for change in call.records[level.first_record..call.changes].iter().rev() {
-            self.store.put_back(change);
+        for at in (level.first_record..call.changes).rev() {
+            self.store.put_back(&call.records[at]);
+            if let Change::Segment { process: q, point, .. } = call.records[at] {
+                let kept = Slot::kept(usize::from(q), usize::from(point));
+                self.segments.swap(kept, Slot::before(process, at));
+            }
         }
         call.changes = level.first_record;
         call.depth = depth;
@@ -449,20 +525,23 @@ impl Kernel {
             11 => r[2],
             _ => r[1],
         };
-        *change.value() = new;
-        self.store.put_back(&change);
+        if let Some(value) = change.value() {
+            *value = new;
+            self.store.put_back(&change);
+        }
         Ok(old)
     }
 }
 
 impl Change {
-    fn value(&mut self) -> &mut u32 {
+    fn value(&mut self) -> Option<&mut u32> {
         match self {
             Change::Cell { value, .. }
             | Change::Nice { value, .. }
             | Change::Window { value, .. }
             | Change::Mark { value, .. }
-            | Change::Tune { value, .. } => value,
+            | Change::Tune { value, .. } => Some(value),
+            Change::Segment { .. } => None,
         }
     }
 }
@@ -603,6 +682,11 @@ impl Store {
             Change::Tune { kind, value, .. } => {
                 if let Some(parameter) = self.policies[usize::from(kind)].parameter() {
                     *parameter = value;
+                }
+            }
+            Change::Segment { process, point, was_kept } => {
+                if let Some(graft) = &mut self.grafts[usize::from(process)][usize::from(point)] {
+                    graft.has_kept = was_kept;
                 }
             }
         }

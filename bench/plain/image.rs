@@ -15,6 +15,8 @@ pub struct Image {
     pub data: Vec<u8>,
     /// Whether there is an access to memory in the code, so that a level needs its segment.
     pub has_access: bool,
+    /// Whether its grafts keep their segments.
+    pub keeps: bool,
 }
 
 /// Why an image is refused: the number of the code, and the place where it tells one.
@@ -45,7 +47,8 @@ pub fn load(key: &[u8; 32], bytes: &[u8]) -> Result<Box<Image>, Fault> {
     if bytes.len() != data + length + SEAL {
         return Err(Fault(1, None));
     }
-    if head > HEADS[0] && word(16) != 0 {
+    let flags = if head > HEADS[0] { word(16) } else { 0 };
+    if flags > 1 {
         return Err(Fault(12, None));
     }
     if head > HEADS[0] && word(20) != 0 {
@@ -62,6 +65,7 @@ pub fn load(key: &[u8; 32], bytes: &[u8]) -> Result<Box<Image>, Fault> {
         count,
         data: text[data..].to_vec(),
         has_access: false,
+        keeps: flags == 1,
     });
     for (place, bytes) in text[head..data].chunks_exact(8).enumerate() {
         let bytes = bytes.try_into().expect("eight bytes");

@@ -2,9 +2,10 @@
 
 use crate::graft::{Cause, Change, Level};
 use crate::image::{self, Image};
-use crate::machine::SEGMENT;
 use crate::object::{Holdings, Mode, Object};
+use crate::ports::Handlers;
 use crate::script::Request;
+use crate::segments::Segments;
 use crate::store::{PROCESSES, Store};
 use crate::text::Text;
 
@@ -39,6 +40,7 @@ pub enum Refusal {
     HoldsLock,
     HoldsNoLock,
     TimedOut(Object, usize),
+    PortFull,
 }
 
 impl Refusal {
@@ -60,6 +62,7 @@ impl Refusal {
             Refusal::HoldsLock => 14,
             Refusal::HoldsNoLock => 15,
             Refusal::TimedOut(..) => 17,
+            Refusal::PortFull => 18,
         }
     }
 }
@@ -103,9 +106,12 @@ pub struct Call {
     pub waits: bool,
     pub blocker: Option<Blocker>,
     pub count: u32,
-    /// The bytes that it writes.
+    /// The bytes that it writes, and those that a graft is fed.
     pub bytes: [u8; crate::disk::BLOCK],
     pub length: usize,
+    /// Who is asked to handle its event, and how many of them have done it.
+    pub handlers: Handlers,
+    pub handled: u32,
 }
 
 impl Call {
@@ -123,6 +129,8 @@ impl Call {
             count: 0,
             bytes: [0; crate::disk::BLOCK],
             length: 0,
+            handlers: Handlers::NONE,
+            handled: 0,
         }
     }
 }
@@ -139,8 +147,7 @@ pub struct Kernel {
     waiting: usize,
     patience: [u32; 8],
     pub images: [Option<Box<Image>>; IMAGES],
-    /// The memory of each level of each process.
-    pub segments: Vec<[u8; SEGMENT]>,
+    pub segments: Segments,
     pub text: Text,
 }
 
@@ -156,7 +163,7 @@ impl Kernel {
             waiting: 0,
             patience: set_up.patience,
             images: [const { None }; IMAGES],
-            segments: vec![[0; SEGMENT]; PROCESSES * LEVELS],
+            segments: Segments::new(),
             text: Text::new(),
         })
     }
@@ -314,7 +321,7 @@ impl Kernel {
         }
         let call = &mut self.calls[process];
         (call.number, call.request, call.stage) = (number, request, 0);
-        if let Request::Write { .. } = request {
+        if request.has_bytes() {
             call.bytes[..bytes.len()].copy_from_slice(bytes);
             call.length = bytes.len();
         }

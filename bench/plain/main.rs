@@ -10,11 +10,14 @@ mod image;
 mod kernel;
 mod machine;
 mod object;
+mod ports;
 mod raw;
 mod script;
+mod segments;
 mod session;
 mod sha256;
 mod store;
+mod streams;
 mod text;
 
 use session::Session;

@@ -3,16 +3,17 @@
 use crate::text::Text;
 
 const PROCESSES: usize = 16;
+const POINTS: usize = 16;
 const LEVELS: usize = 4;
 
 /// How many objects there are.
-const OBJECTS: usize = 261;
+const OBJECTS: usize = 421;
 
 /// How many objects a level can hold at most: those of one installer, and those of one piece.
 const HELD: usize = 64;
 
 /// The first number of each kind of object, in the order of the kinds.
-const FIRST: [u16; 8] = [0, 96, 112, 176, 240, 241, 242, 258];
+const FIRST: [u16; 8] = [0, 256, 272, 336, 400, 401, 402, 418];
 
 /// The names of the kinds in a script.
 pub const KINDS: [&[u8]; 8] =
@@ -34,7 +35,7 @@ impl Object {
     pub const CACHE: Object = Object(FIRST[5]);
 
     pub fn graft(process: usize, point: usize) -> Object {
-        Object((process * 6 + point) as u16)
+        Object((process * POINTS + point) as u16)
     }
 
     pub fn account(process: usize) -> Object {
@@ -69,7 +70,7 @@ impl Object {
         let names = [" Graft", " Acct", " Cell", " Open", " Queue", " Cache", " Lock", " Pol"];
         text.word(names[kind]);
         let (first, second) = match kind {
-            0 => (number / 6, Some(number % 6)),
+            0 => (number / POINTS as u64, Some(number % POINTS as u64)),
             2 | 3 => (number / 4, Some(number % 4)),
             4 | 5 => return,
             _ => (number, None),

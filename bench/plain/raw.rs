@@ -94,7 +94,7 @@ impl Kernel {
     fn raw_grafts(&mut self, number: u32) {
         for p in 0..PROCESSES {
             for point in 0..POINTS {
-                if let Some(Graft { image, limit, billed, has }) = self.store.grafts[p][point] {
+                if let Some(Graft { image, limit, billed, has, .. }) = self.store.grafts[p][point] {
                     let [a, b, c] = has;
                     let values = [
                         p as u64,
@@ -198,6 +198,9 @@ impl Kernel {
             Change::Mark { frame, value } => (" mark", [Some(frame.into()), Some(value), None]),
             Change::Tune { kind, parameter, value } => {
                 (" tune", [Some(kind.into()), Some(parameter.into()), Some(value)])
+            }
+            Change::Segment { process, point, .. } => {
+                (" seg", [Some(process.into()), Some(point.into()), None])
             }
         };
         self.text.word(name);

@@ -23,6 +23,9 @@ pub enum Request {
     Close { descriptor: u32 },
     Read { descriptor: u32, block: u32, offset: u32, length: u32 },
     Write { descriptor: u32, block: u32, offset: u32 },
+    StreamWrite { descriptor: u32, block: u32, offset: u32 },
+    Serve { port: u32 },
+    StreamRead { descriptor: u32, block: u32, offset: u32, length: u32 },
     Lock { lock: u32 },
     Unlock { lock: u32 },
     Poke { cell: u32, value: u32 },
@@ -34,6 +37,14 @@ pub enum Request {
     Remove { point: u32 },
     Fund { point: u32, amount: u8, count: u32 },
     Bill { point: u32 },
+}
+
+impl Request {
+    /// Whether its line has bytes for it.
+    #[inline(always)]
+    pub fn has_bytes(&self) -> bool {
+        matches!(self, Request::Write { .. } | Request::StreamWrite { .. } | Request::Serve { .. })
+    }
 }
 
 /// What a line says.
@@ -271,7 +282,7 @@ words! {
     STEP b"step" IMAGE b"image" SPAWN b"spawn" EXIT b"exit" YIELD b"yield" SYNC b"sync"
     OPEN b"open" CLOSE b"close" READ b"read" WRITE b"write" LOCK b"lock" UNLOCK b"unlock"
     POKE b"poke" PEEK b"peek" TUNE b"tune" DEFAULT b"default" GIVE b"give" INSTALL b"install"
-    REMOVE b"remove" FUND b"fund" BILL b"bill"
+    REMOVE b"remove" FUND b"fund" BILL b"bill" SERVE b"serve" SREAD b"sread" SWRITE b"swrite"
 }
 
 #[inline(always)]
@@ -304,6 +315,20 @@ fn request(command: u64, words: &mut Words, bytes: &mut Bytes) -> Option<Request
         REMOVE => Request::Remove { point: w.number()? },
         FUND => Request::Fund { point: w.number()?, amount: w.amount()?, count: w.number()? },
         BILL => Request::Bill { point: w.number()? },
+        SERVE => {
+            let port = w.number()?;
+            w.hex(BLOCK, bytes)?;
+            Request::Serve { port }
+        }
+        SREAD => {
+            let (descriptor, block) = (w.number()?, w.number()?);
+            Request::StreamRead { descriptor, block, offset: w.number()?, length: w.number()? }
+        }
+        SWRITE => {
+            let (descriptor, block, offset) = (w.number()?, w.number()?, w.number()?);
+            w.hex(BLOCK, bytes)?;
+            Request::StreamWrite { descriptor, block, offset }
+        }
         _ => return None,
     })
 }
@@ -311,14 +336,14 @@ fn request(command: u64, words: &mut Words, bytes: &mut Bytes) -> Option<Request
 /// The words of each command behind the first: k is an amount, o a kind of object, and n any other.
 /// The first four stand before `boot`.
 #[rustfmt::skip]
-const COMMANDS: [(&[u8], &[u8]); 27] = [
+const COMMANDS: [(&[u8], &[u8]); 30] = [
     (b"frames", b"n"), (b"patience", b"on"), (b"grant", b"n"), (b"boot", b""),
     (b"tick", b""), (b"raw", b""), (b"step", b"nn"), (b"image", b"nn"), (b"spawn", b"n"),
     (b"exit", b"n"), (b"yield", b"n"), (b"sync", b"n"), (b"open", b"nn"), (b"close", b"nn"),
     (b"read", b"nnnnn"), (b"write", b"nnnnn"), (b"lock", b"nn"), (b"unlock", b"nn"),
     (b"poke", b"nnn"), (b"peek", b"nn"), (b"tune", b"nnnn"), (b"default", b"nnn"),
     (b"give", b"nnkn"), (b"install", b"nnnn"), (b"remove", b"nn"), (b"fund", b"nnkn"),
-    (b"bill", b"nn"),
+    (b"bill", b"nn"), (b"serve", b"nnn"), (b"sread", b"nnnnn"), (b"swrite", b"nnnnn"),
 ];
 
 /// Why a line that `parse` doesn't take is refused: the number of the code.

@@ -2,9 +2,10 @@
 
 use crate::cache::Cache;
 use crate::disk::{self, Block, File};
+use crate::ports::{Handlers, PORTS};
 
 pub const PROCESSES: usize = 16;
-pub const POINTS: usize = 6;
+pub const POINTS: usize = 16;
 pub const FILES: usize = 4;
 pub const CELLS: usize = 4;
 pub const USER_LOCKS: usize = 16;
@@ -19,10 +20,16 @@ pub const AHEAD: usize = 0;
 pub const EVICTION: usize = 1;
 pub const SCHEDULING: usize = 2;
 
-/// The point that is asked about eviction, and the one about scheduling. The others are asked what
+/// The point that is asked about eviction, and the one about scheduling. Those below are asked what
 /// to read ahead of the descriptor of that number.
 pub const VICTIM: usize = 4;
 pub const NEXT: usize = 5;
+
+/// The points of ports begin here, and behind them stand those that bytes of a file go through on
+/// their way out and in.
+pub const FIRST_PORT: usize = 6;
+pub const OUT: usize = 14;
+pub const IN: usize = 15;
 
 /// What a read file has at most ahead.
 pub const MOST_AHEAD: u32 = 8;
@@ -55,6 +62,8 @@ pub struct Graft {
     pub image: u8,
     pub limit: u32,
     pub billed: bool,
+    /// Whether a segment is kept for it.
+    pub has_kept: bool,
     pub has: [u64; 3],
 }
 
@@ -92,8 +101,11 @@ pub struct Store {
     pub files: [[Option<Open>; FILES]; PROCESSES],
     pub accounts: [Account; PROCESSES],
     pub grafts: [[Option<Graft>; POINTS]; PROCESSES],
+    /// The points of each process at which a graft stands, as bits.
+    pub standing: [u16; PROCESSES],
     pub locks: [Option<u8>; USER_LOCKS],
     pub policies: [Policies; 3],
+    pub handlers: [Handlers; PORTS],
     pub cache: Cache,
     pub directory: Vec<File>,
 }
@@ -112,12 +124,14 @@ impl Store {
             files: [[None; FILES]; PROCESSES],
             accounts,
             grafts: [[None; POINTS]; PROCESSES],
+            standing: [0; PROCESSES],
             locks: [None; USER_LOCKS],
             policies: [
                 Policies { chosen: 1, parameters: [0, 2, 1] },
                 Policies { chosen: 0, parameters: [0; 3] },
                 Policies { chosen: 0, parameters: [0; 3] },
             ],
+            handlers: [Handlers::NONE; PORTS],
             directory: disk::directory(&disk),
             cache: Cache::new(frames, disk),
         };
@@ -169,8 +183,11 @@ impl Store {
                 *lock = None;
             }
         }
-        for point in 0..POINTS {
-            self.remove(process, point);
+        while self.standing[process] != 0 {
+            self.remove(process, self.standing[process].trailing_zeros() as usize);
+        }
+        for handlers in &mut self.handlers {
+            handlers.forget(process);
         }
         let left = std::mem::take(&mut self.accounts[process]);
         let root = &mut self.accounts[0];
@@ -183,6 +200,7 @@ impl Store {
 
     /// The graft at a point is taken out. What it has goes to its process.
     pub fn remove(&mut self, process: usize, point: usize) {
+        self.standing[process] &= !(1 << point);
         if let Some(graft) = self.grafts[process][point].take() {
             for (has, left) in self.accounts[process].has.iter_mut().zip(graft.has) {
                 *has += left;

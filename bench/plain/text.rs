@@ -129,6 +129,14 @@ impl Text {
         self.length = end;
     }
 
+    /// The line of bytes that a call gives.
+    pub fn data(&mut self, call: u32, bytes: &[u8]) {
+        self.number(u64::from(call));
+        self.word(if bytes.is_empty() { " data" } else { " data " });
+        self.hex(bytes);
+        self.end();
+    }
+
     /// The end of a line.
     #[inline(always)]
     pub fn end(&mut self) {
