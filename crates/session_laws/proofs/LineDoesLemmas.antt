@@ -159,7 +159,8 @@ module _ (b : Build) (keys : Keys) (size : ℕ) (s : Session) (text : List ℕ) 
   entry_does (Loads slot bytes) right says = needs_kernel (Loads slot bytes) says
   entry_does Raw right says = needs_kernel Raw says
 
-  parse_does : (x : Result Entry ScriptFault) → SaysRight (is_some s.kernel) x → line_event s text ≡ event_by s.kernel x →
+  parse_does : (x : Result Entry ScriptFault) → SaysRight (is_some s.kernel) x →
+      line_event s text ≡ event_by s.kernel x →
       Does (after_parse b keys size next x io)
   parse_does (Err fault) right says =
       stays (after_parse b keys size next (Err fault) io) (says ∙ nothing s.kernel) refl refl no_less refl

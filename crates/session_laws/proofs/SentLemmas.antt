@@ -68,7 +68,8 @@ marks_own n p l call notes q c d e same stays h =
         }
 
 -- a call of another number begins
-pub served_begins : (n p : ℕ) (l : Shown) (call : ℕ → Option Call) (notes : List Note) (q : ℕ) (c : Call) → c.number ≢ n →
+pub served_begins : (n p : ℕ) (l : Shown) (call : ℕ → Option Call) (notes : List Note) (q : ℕ) (c : Call) →
+    c.number ≢ n →
     IsServed n p l call notes → IsServed n p l (at q (Some c) call) notes
 served_begins n p l call notes q c ne h =
     served_left n p l l call (at q (Some c) call) notes notes h (marks_leaves n l call notes q c ne)
@@ -132,7 +133,8 @@ err_stage : (why : Refusal) (t : Stage) → ◌≡◌ {A = Result Stage Refusal}
 err_stage why t e = cc
 
 -- the stage at which it begins
-pub stage_is : (m : Meaning) → MeansServe m → (v : World) (images : ImageTable) (p port : ℕ) (bytes : List ℕ) (t : Stage) →
+pub stage_is : (m : Meaning) → MeansServe m →
+    (v : World) (images : ImageTable) (p port : ℕ) (bytes : List ℕ) (t : Stage) →
     m.early v images p (Serve port bytes) ≡ Ok t → t ≡ stage (Serve port bytes) 0
 stage_is m serves v images p port bytes t e =
     by_refusal (event_refusal v images p (Serve port bytes)) (sym (serves.early v images p port bytes) ∙ e)
@@ -142,7 +144,8 @@ stage_is m serves v images p port bytes t e =
     by_refusal (Some why) e = absurd (err_stage why t e)
 
 -- the call is in flight
-pub serve_begins : (n p port : ℕ) (bytes : List ℕ) (l : Shown) (call : ℕ → Option Call) (notes : List Note) (t : Stage) →
+pub serve_begins : (n p port : ℕ) (bytes : List ℕ) (l : Shown) (call : ℕ → Option Call) (notes : List Note)
+    (t : Stage) →
     t ≡ stage (Serve port bytes) 0 → IsFresh n l call notes →
     IsServed n p l (at p (Some (record { number = n; stage = t; marks = None })) call) notes
 serve_begins n p port bytes l call notes t e h =
@@ -193,7 +196,8 @@ done_behind : (earlier notes gave after : List Note) →
 done_behind earlier notes gave after =
     ap (λ xs. xs ++ after) (append_assoc earlier notes gave) ∙ append_assoc earlier (notes ++ gave) after
 
-pub behind_kept : (m : Meaning) (Q : Shown → (ℕ → Option Call) → List Note → Type 0) (earlier : List Note) → IsKept m Q →
+pub behind_kept : (m : Meaning) (Q : Shown → (ℕ → Option Call) → List Note → Type 0) (earlier : List Note) →
+    IsKept m Q →
     IsKept m (behind earlier Q)
 behind_kept m Q earlier kept =
     record {

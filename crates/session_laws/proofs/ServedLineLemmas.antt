@@ -18,7 +18,8 @@ use Rattle.session_laws.specs.Lines.{line_event, event_in_shows, lines_show}
 use Rattle.session_laws.specs.Shown.{event_on_shows}
 use Rattle.session_laws.specs.Sent.{step_answers, step_completed, step_taken}
 use Rattle.session_laws.specs.Served.{MeansServe, EachLineTellsAnswers, RunsTellAnswers}
-use Rattle.session_laws.proofs.LineDoesLemmas.{LineDoes, Happened, Loaded, Began, Stayed, line_does, line_rises, lines_rise}
+use Rattle.session_laws.proofs.LineDoesLemmas.{LineDoes, Happened, Loaded, Began, Stayed, line_does}
+use Rattle.session_laws.proofs.LineDoesLemmas.{line_rises, lines_rise}
 use Rattle.session_laws.proofs.ShownLemmas.{Shown, nothing, and_then, then_nothing, then_then, new_call, event_shown}
 use Rattle.session_laws.proofs.ServeKeptLemmas.{IsKept}
 use Rattle.session_laws.proofs.ShownEventLemmas.{sys_kept, event_kept}

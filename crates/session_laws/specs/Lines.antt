@@ -1,5 +1,6 @@
 -- What the lines of a script are run as, and what the events among them show.
-use Rattle.std.specs.Prelude.{ℕ, suc, Bool, true, false, List, [], ◌∷◌, ◌++◌, Option, Some, None, Result, Ok, Err}
+use Rattle.std.specs.Prelude.{ℕ, suc, Bool, true, false, List, [], ◌∷◌, ◌++◌, Option, Some, None}
+use Rattle.std.specs.Prelude.{Result, Ok, Err}
 use Rattle.script_model.specs.declared.Event.{Event}
 use Rattle.script_model.specs.declared.Keys.{Keys}
 use Rattle.script_model.specs.Kernel.{Kernel, Run}
