@@ -313,12 +313,14 @@ module _ (m : Meaning) (laws : Laws m) where
   event_spends l notes k blocks number e io sound h =
       let n = note_count is_drop notes in
       let u = event m k blocks number e io in
-      let done = (event_kept m laws (Spends m n) (spends_kept m laws n) number e l (run_at k blocks io)
-      (sound, record {
-        store = h.store;
-        stands = begins_in k blocks io h.store h.stands h.whole;
-        counts = λ spends. counts_begin l n h.store (h.counts spends);
-      })).1 in
+      let done = (event_kept m laws (Spends m n) (spends_kept m laws n) number e l (run_at k blocks io) (
+        sound,
+        record {
+          store = h.store;
+          stands = begins_in k blocks io h.store h.stands h.whole;
+          counts = λ spends. counts_begin l n h.store (h.counts spends);
+        },
+      )).1 in
       record {
         store = done.store;
         stands = done.stands.kernel;

@@ -177,9 +177,10 @@ module _ (m : Meaning) (laws : Laws m) (Q : List Move → Run → Type 0) (kept 
         ((n : ℕ) → d ≡ Some n → n < length (levels_of m r.kernel p)) →
         entry_action m e e.blocker r ≡ drop_call m p (r.kernel.call p) d cause r →
         Acted (drop_call m p (r.kernel.call p) d cause r)
-    drop_kept p (Some n) cause low does =
-        (drop_sound m laws laws.need.grafts r p n cause h.0 (low n refl),
-        kept.drops l e p n cause r h.0 (low n refl) does h.1)
+    drop_kept p (Some n) cause low does = (
+      drop_sound m laws laws.need.grafts r p n cause h.0 (low n refl),
+      kept.drops l e p n cause r h.0 (low n refl) does h.1,
+    )
     drop_kept p None cause low does =
         idle_kept (drop_call m p (r.kernel.call p) None cause r) does (by_call (r.kernel.call p))
       where
@@ -303,9 +304,10 @@ module _ (m : Meaning) (laws : Laws m) (Q : List Move → Run → Type 0) (kept 
   begun_kept number p call (Err refusal) l r none alive early h =
       nothing_more l (noted (Refused number refusal) r) (note_kept l (Refused number refusal) r refl h)
   begun_kept number p call (Ok t) l r none alive early h =
-      settled_kept l (joins p (with_call p (Some (new_call number t)) r))
-      (joined_call_sound m laws laws.need.grafts number p call t r h.0 none alive early,
-      kept.begins l number p call t r h.0 none alive early h.1)
+      settled_kept l (joins p (with_call p (Some (new_call number t)) r)) (
+        joined_call_sound m laws laws.need.grafts number p call t r h.0 none alive early,
+        kept.begins l number p call t r h.0 none alive early h.1,
+      )
 
   -- any event
   pub event_kept : (number : ℕ) (e : Event) (l : List Move) (r : Run) → On l r →

@@ -79,9 +79,13 @@ core_found x None e = absurd (nothing e)
     nothing e = cc
 core_found x (Some old) e =
     let same = core_is (record { block = x.block; dirty = x.dirty; bytes = x.bytes })
-    (record { block = old.block; dirty = old.dirty; bytes = old.bytes }) e in
-    (old, refl, sym (ap (λ (c : Core). c.block) same), sym (ap (λ (c : Core). c.dirty) same),
-    sym (ap (λ (c : Core). c.bytes) same))
+    (record { block = old.block; dirty = old.dirty; bytes = old.bytes }) e in (
+      old,
+      refl,
+      sym (ap (λ (c : Core). c.block) same),
+      sym (ap (λ (c : Core). c.dirty) same),
+      sym (ap (λ (c : Core). c.bytes) same),
+    )
   where
     core_is : (a b : Core) → Some a ≡ Some b → a ≡ b
     core_is a b e = cc
@@ -425,11 +429,15 @@ module _ (v : World) (images : ImageTable) (s : Objects) (blocks : Blocks) (p : 
           × ((read_first_at r v s blocks p fd i off len o (registers_of answer) io).gave
           ≡ Some (slice_range (seen_block c blocks b) off (off + len)))
       by_block (Err why) e goes = absurd (fails_goes why u goes)
-      by_block (Ok b) e goes = (b, e, first_gives fd i off len b o
-          (fetch v (s.things.pol 1) p b (registers_of answer) c blocks io) u
-          (fetch_shown v s.things.queue c cache blocks coherent (s.things.pol 1) p b (registers_of answer) io)
-          (fetch_names v s.things.queue (s.things.pol 1) p b (registers_of answer) c blocks io cache
-          (block_whole (Some o) i off len b e)) goes)
+      by_block (Ok b) e goes = (
+        b,
+        e,
+        first_gives fd i off len b o
+            (fetch v (s.things.pol 1) p b (registers_of answer) c blocks io) u
+            (fetch_shown v s.things.queue c cache blocks coherent (s.things.pol 1) p b (registers_of answer) io)
+            (fetch_names v s.things.queue (s.things.pol 1) p b (registers_of answer) c blocks io cache
+            (block_whole (Some o) i off len b e)) goes,
+      )
 
   read_keeps : (fd i off len : ℕ) → t.call ≡ Read fd i off len →
       IsSoundStore v
@@ -583,11 +591,15 @@ module _ (v : World) (images : ImageTable) (s : Objects) (blocks : Blocks) (p : 
           (b : ℕ) × (file_block v (s.things.file p fd) i off len ≡ Ok b)
           × (u.bytes ≡ slice_range (seen_block c blocks b) off (off + len))
       by_block (Err why) e goes = absurd (fails_goes why u goes)
-      by_block (Ok b) e goes = (b, e, takes_seen t.call off len b
-          (fetch v (s.things.pol 1) p b (registers_of answer) c blocks io) u
-          (fetch_shown v s.things.queue c cache blocks coherent (s.things.pol 1) p b (registers_of answer) io)
-          (fetch_names v s.things.queue (s.things.pol 1) p b (registers_of answer) c blocks io cache
-          (block_whole (s.things.file p fd) i off len b e)) goes)
+      by_block (Ok b) e goes = (
+        b,
+        e,
+        takes_seen t.call off len b
+            (fetch v (s.things.pol 1) p b (registers_of answer) c blocks io) u
+            (fetch_shown v s.things.queue c cache blocks coherent (s.things.pol 1) p b (registers_of answer) io)
+            (fetch_names v s.things.queue (s.things.pol 1) p b (registers_of answer) c blocks io cache
+            (block_whole (s.things.file p fd) i off len b e)) goes,
+      )
 
   sread_keeps : (fd i off len : ℕ) → t.call ≡ StreamRead fd i off len →
       IsSoundStore v (stream_read_piece t.piece t v s blocks p fd i off len answer io).objects →

@@ -118,9 +118,11 @@ module _ (r u : Run) (q : ℕ) (c : Call) (is : r.kernel.call q ≡ Some c) (sou
   shown_on : IsCoherent w.things.cache r.blocks × ShowsSame (cache_in r) r.blocks w.things.cache r.blocks
   shown_on =
       let h = cores_shown v r.kernel.objects r.blocks w.things.cache sound.kernel.state.store coherent
-      (λ f. markless_core (r.kernel.objects.things.cache.frame f) (w.things.cache.frame f) (alike.frames f)) in
-      (h.coherent, shows_same v w.things.queue (cache_in r) r.blocks w.things.cache r.blocks
-      (cache_of_store v w ready.standing.store) h)
+      (λ f. markless_core (r.kernel.objects.things.cache.frame f) (w.things.cache.frame f) (alike.frames f)) in (
+        h.coherent,
+        shows_same v w.things.queue (cache_in r) r.blocks w.things.cache r.blocks
+            (cache_of_store v w ready.standing.store) h,
+      )
 
   piece_keeps : KeepsShown v w r.blocks q c.stage done
   piece_keeps =
@@ -143,8 +145,13 @@ module _ (r u : Run) (q : ℕ) (c : Call) (is : r.kernel.call q ≡ Some c) (sou
   puts_shows : (put : Put) → put_by c.stage ≡ Some put → done.after ≡ well → Shows done.objects done.blocks
   puts_shows put by ends =
       let k = piece_keeps.puts put by ends in
-      inr (put, by, k.0, same_file put.file put.block put.offset (length put.bytes) ∙ k.1,
-      (k.2.0 ∙ ap (bytes_with put.offset put.bytes) (shown_on.1 k.0), λ other ne. k.2.1 other ne ∙ shown_on.1 other))
+      inr (
+        put,
+        by,
+        k.0,
+        same_file put.file put.block put.offset (length put.bytes) ∙ k.1,
+        (k.2.0 ∙ ap (bytes_with put.offset put.bytes) (shown_on.1 k.0), λ other ne. k.2.1 other ne ∙ shown_on.1 other),
+      )
 
   any_shows : Shows done.objects done.blocks
   any_shows = by_put (put_by c.stage) refl
@@ -189,9 +196,11 @@ module _ (r u : Run) (q : ℕ) (c : Call) (is : r.kernel.call q ≡ Some c) (sou
 
       by_after : (a : After) → done.after ≡ a → call_after c a ≡ Some d →
           (t : Stage) × (done.after ≡ Continues t) × (d.stage ≡ t)
-      by_after (Continues t) e after =
-          (t, e,
-          sym (ap (λ (y : Call). y.stage) (call_is (record { number = c.number; stage = t; marks = None }) d after)))
+      by_after (Continues t) e after = (
+        t,
+        e,
+        sym (ap (λ (y : Call). y.stage) (call_is (record { number = c.number; stage = t; marks = None }) d after)),
+      )
       by_after (EndsWith reply) e after = absurd (no_call after)
       by_after (Fails why) e after = absurd (no_call after)
 
@@ -202,25 +211,29 @@ module _ (r u : Run) (q : ℕ) (c : Call) (is : r.kernel.call q ≡ Some c) (sou
       let k = goes_is p x d goes in
       let gives = piece_keeps.read fd i off len k.2 (ap (λ (y : Call). y.stage.call) (sym k.1) ∙ call)
       (ap (λ (y : Call). y.stage.piece) (sym k.1) ∙ goes.first) k.3 in
-      let bytes = slice_range (seen_block w.things.cache r.blocks gives.0) off (off + len) in
-      (gives.0, subst (λ z. Names r z fd i off len gives.0) (sym k.0) (same_file fd i off len ∙ gives.1),
-      r.notes ++ pre,
-      notes ∙ ap (λ g. ((r.notes ++ pre) ++ gave_note c.number g) ++ after_note c.number done.after) gives.2
-      ∙ ap (λ a. ((r.notes ++ pre) ++ Gave c.number bytes ∷ []) ++ after_note c.number a) k.3
-      ∙ append-nil ((r.notes ++ pre) ++ Gave c.number bytes ∷ [])
-      ∙ ap (λ ys. (r.notes ++ pre) ++ Gave c.number (slice_range ys off (off + len)) ∷ []) (shown_on.1 gives.0)
-      ∙ ap (λ (y : Call). (r.notes ++ pre) ++ Gave y.number (slice_range (seen_in r gives.0) off (off + len)) ∷ [])
-      (sym k.1))
+      let bytes = slice_range (seen_block w.things.cache r.blocks gives.0) off (off + len) in (
+        gives.0,
+        subst (λ z. Names r z fd i off len gives.0) (sym k.0) (same_file fd i off len ∙ gives.1),
+        r.notes ++ pre,
+        notes ∙ ap (λ g. ((r.notes ++ pre) ++ gave_note c.number g) ++ after_note c.number done.after) gives.2
+            ∙ ap (λ a. ((r.notes ++ pre) ++ Gave c.number bytes ∷ []) ++ after_note c.number a) k.3
+            ∙ append-nil ((r.notes ++ pre) ++ Gave c.number bytes ∷ [])
+            ∙ ap (λ ys. (r.notes ++ pre) ++ Gave c.number (slice_range ys off (off + len)) ∷ []) (shown_on.1 gives.0)
+            ∙ ap (λ (y : Call). (r.notes ++ pre) ++ Gave y.number (slice_range (seen_in r gives.0) off (off + len)) ∷ [])
+            (sym k.1),
+      )
 
   takes : (p fd i off len : ℕ) (x d : Call) → x.stage.call ≡ StreamRead fd i off len → GoesOn r u p x d →
       (b : ℕ) × Names r p fd i off len b × (d.stage.bytes ≡ slice_range (seen_in r b) off (off + len))
   takes p fd i off len x d call goes =
       let k = goes_is p x d goes in
       let taken = piece_keeps.taken fd i off len k.2 (ap (λ (y : Call). y.stage.call) (sym k.1) ∙ call)
-      (ap (λ (y : Call). y.stage.piece) (sym k.1) ∙ goes.first) k.3 in
-      (taken.0, subst (λ z. Names r z fd i off len taken.0) (sym k.0) (same_file fd i off len ∙ taken.1),
-      ap (λ (t : Stage). t.bytes) k.4 ∙ taken.2
-      ∙ ap (λ ys. slice_range ys off (off + len)) (shown_on.1 taken.0))
+      (ap (λ (y : Call). y.stage.piece) (sym k.1) ∙ goes.first) k.3 in (
+        taken.0,
+        subst (λ z. Names r z fd i off len taken.0) (sym k.0) (same_file fd i off len ∙ taken.1),
+        ap (λ (t : Stage). t.bytes) k.4 ∙ taken.2
+            ∙ ap (λ ys. slice_range ys off (off + len)) (shown_on.1 taken.0),
+      )
 
   pub piece_shown : MoveKeepsShown r u
   piece_shown =
@@ -292,8 +305,11 @@ one_more first l x r u before after h k =
           | inl kept ↦ inl (same ∙ kept)
           | inr seen ↦ inr (seen.0, Contains-append_left l (x ∷ []) seen.0 seen.1, same ∙ seen.2)
         ]
-        | inr seen ↦ inr (x, Contains-append_right l (x ∷ []) x (contains_first x []),
-            seen ∙ ap (λ y. seen_in y b) (sym before))
+        | inr seen ↦ inr (
+          x,
+          Contains-append_right l (x ∷ []) x (contains_first x []),
+          seen ∙ ap (λ y. seen_in y b) (sym before),
+        )
       ];
     }
 

@@ -260,11 +260,12 @@ module _ (r u : Run) (q : ℕ) (c : Call) (is : r.kernel.call q ≡ Some c) (sou
         ∙ ap (λ (d : Piece). ((r.notes ++ pre) ++ gave_note c.number d.gave) ++ after_note c.number d.after)
         (second_is fd i off len e next) in
         let last = last_same before ((r.notes ++ pre) ++ Gave c.number bytes ∷ []) (Ended x.number reply)
-        (Ended c.number Reply.Plain) (sym ends ∙ told) in
-        (r.notes ++ pre,
-        last.0 ∙ ap (λ (y : Call). (r.notes ++ pre) ++ Gave y.number (through answer y.stage.bytes) ∷ []) (sym one),
-        ap (λ (y : Call). length (through answer y.stage.bytes)) one
-        ∙ given_length fd i off len e next (few_asked fd i off len e))
+        (Ended c.number Reply.Plain) (sym ends ∙ told) in (
+          r.notes ++ pre,
+          last.0 ∙ ap (λ (y : Call). (r.notes ++ pre) ++ Gave y.number (through answer y.stage.bytes) ∷ []) (sym one),
+          ap (λ (y : Call). length (through answer y.stage.bytes)) one
+              ∙ given_length fd i off len e next (few_asked fd i off len e),
+        )
   ]
 
   -- the first piece of a stream write
@@ -308,9 +309,11 @@ module _ (r u : Run) (q : ℕ) (c : Call) (is : r.kernel.call q ≡ Some c) (sou
             handlers = [];
             answers = 0;
             bytes = through answer given;
-          }) s goes)) in
-          (bytes, ap (λ (ys : List ℕ). length ys) bytes
-          ∙ through_length w q WRITE_POINT i off fd given answer (few (length given) within) refl right ready.body)
+          }) s goes)) in (
+            bytes,
+            ap (λ (ys : List ℕ). length ys) bytes
+                ∙ through_length w q WRITE_POINT i off fd given answer (few (length given) within) refl right ready.body,
+          )
 
   piece_streams : MoveKeepsStreams answer r u
   piece_streams =
@@ -405,10 +408,12 @@ commits_streams : (r u : Run) (q : ℕ) (c : Call) (x : Option Answer) → r.ker
     IsSoundRun all_calls r → StreamsSoFar [] r.kernel r.blocks → Commits all_calls q c x r u → Moved x r u
 commits_streams r u q c x is sound h (Done w answer pre given ready alike objects blocks calls notes) =
     let shown = piece_shown r u q c is sound h.coherent w answer ready alike objects blocks calls pre notes in
-    let goes = goes_is r u q c is sound h.coherent w answer ready alike objects blocks calls pre notes in
-    (subst (λ y. MoveKeepsStreams y r u) given
-    (piece_streams r u q c is sound shown h.carries w answer ready calls pre notes goes),
-    piece_carries r u q c is sound shown h.carries w answer ready calls pre notes goes, shown.coherent)
+    let goes = goes_is r u q c is sound h.coherent w answer ready alike objects blocks calls pre notes in (
+      subst (λ y. MoveKeepsStreams y r u) given
+          (piece_streams r u q c is sound shown h.carries w answer ready calls pre notes goes),
+      piece_carries r u q c is sound shown h.carries w answer ready calls pre notes goes,
+      shown.coherent,
+    )
 commits_streams r u q c x is sound h (Stays objects blocks calls stand) =
     let shown = nothing_shown r u h.coherent objects blocks calls in
     (nothing_streams r u x calls stand, stays_carried r u calls h.carries, shown.coherent)
@@ -501,14 +506,17 @@ streams_kept = record {
         let u = times_out all_calls p b c r in StreamsSoFar (l ++ Acts e r ∷ []) u.kernel u.blocks
     ended l e p b c r is does h =
         let u = times_out all_calls p b c r in
-        one_more l (Acts e r) r u refl does h
-        (record {
-          taken = λ q fd i off len x d call goes. absurd (no_move q x d goes);
-          gives = λ q fd i off len x reply notes before call second after ends.
-              absurd (refused_ends (last_same r.notes notes (Refused c.number (TimedOut b.object b.holder))
-              (Ended x.number reply) ends).1);
-          made = λ q fd i off given x d call goes. absurd (no_move q x d goes);
-        }, stays_carried r u others h.carries, h.coherent)
+        one_more l (Acts e r) r u refl does h (
+          record {
+            taken = λ q fd i off len x d call goes. absurd (no_move q x d goes);
+            gives = λ q fd i off len x reply notes before call second after ends.
+                absurd (refused_ends (last_same r.notes notes (Refused c.number (TimedOut b.object b.holder))
+                (Ended x.number reply) ends).1);
+            made = λ q fd i off given x d call goes. absurd (no_move q x d goes);
+          },
+          stays_carried r u others h.carries,
+          h.coherent,
+        )
       where
         refused_ends : {n i : ℕ} {why : Refusal} {reply : Reply} → Refused n why ≡ Ended i reply → ⊥
         refused_ends e = cc

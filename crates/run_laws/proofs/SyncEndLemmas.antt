@@ -51,7 +51,7 @@ clean_written f value s h g low = elim (cases_eq g f) [
 
 clean_from : (n f written : ℕ) (s : Objects) (blocks : Blocks) (io : List Bool) (reply : Reply) → CleanBelow f s →
     (sync_from n f written s blocks io).after ≡ EndsWith reply →
-        CleanBelow (f + n) (sync_from n f written s blocks io).objects
+    CleanBelow (f + n) (sync_from n f written s blocks io).objects
 clean_from zero f written s blocks io reply h ends =
     subst (λ i. CleanBelow i s) (none_more f) h
   where
