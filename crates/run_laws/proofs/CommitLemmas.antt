@@ -1,6 +1,6 @@
 -- What a step, or the drop of a level, commits: a piece that is done on a state that is alike to the committed one, or
 -- nothing.
-use Rattle.std.specs.Prelude.{◌≡◌, ◌≢◌, ℕ, zero, suc, ◌<◌, Bool, true, false, List, [], ◌∷◌, ◌++◌, Option, Some, None}
+use Rattle.std.specs.Prelude.{◌≡◌, ℕ, zero, suc, List, [], ◌∷◌, ◌++◌, Option, Some, None}
 use Rattle.std.proofs.Common.{refl, subst, sym, ap, ◌∙◌, inl, inr}
 use Rattle.std.proofs.lemmas.Bool.{cases_eq}
 use Rattle.std.proofs.lemmas.List.{append-nil}
@@ -17,7 +17,7 @@ use Rattle.script_model.specs.History.{Mark, Stepped, Trace, replay, fallen}
 use Rattle.script_model.specs.Kernel.{Call, Run, call_after, gave_note, after_note, with_marks, requeue}
 use Rattle.script_model.specs.Laws.{Laws, IsReady}
 use Rattle.script_model.specs.Levels.{Outcome, answer_of, drop_level}
-use Rattle.script_model.specs.Meaning.{Meaning, Stage, Answer, Piece}
+use Rattle.script_model.specs.Meaning.{Meaning, Answer, Piece}
 use Rattle.script_model.specs.Objects.{Objects, GraftValue, at}
 use Rattle.script_model.specs.Settle.{lost_objects, finish_on, piece_at, piece_step, after_outcome, outcome_step}
 use Rattle.script_model.specs.Settle.{graft_step, marked_step, call_step, step}

@@ -1,5 +1,5 @@
 -- What a step in place spends, and how many drops it tells.
-use Rattle.std.specs.Prelude.{◌≡◌, ◌≢◌, ℕ, zero, suc, ◌+◌, ◌<◌, ◌≤◌, ◌==◌, ◌||◌, not, Bool, true, false, cond}
+use Rattle.std.specs.Prelude.{◌≡◌, ℕ, zero, suc, ◌+◌, ◌<◌, ◌≤◌, ◌==◌, ◌||◌, not, Bool, true, false}
 use Rattle.std.specs.Prelude.{List, [], ◌∷◌, ◌++◌, map, length, Contains, Option, Some, None, is_some}
 use Rattle.std.proofs.Common.{arith, refl, subst, sym, ap, ◌∙◌}
 use Rattle.std.proofs.lemmas.Bool.Decides.{nat_tests}
@@ -19,9 +19,8 @@ use Rattle.script_model.specs.Meaning.{Meaning, Answer}
 use Rattle.script_model.specs.Levels.{Level, Config, Outcome, answer_of, limit_in, drop_innermost, drop_level}
 use Rattle.script_model.specs.GraftStep.{is_spent, micro, micro_on, charged_step}
 use Rattle.script_model.specs.History.{Mark}
-use Rattle.script_model.specs.Kernel.{Call, Kernel, Run, gave_note, after_note, has_level}
+use Rattle.script_model.specs.Kernel.{Call, Run, gave_note, after_note, has_level}
 use Rattle.script_model.specs.Blocking.{config_in, levels_in, trace_of, config_of, levels_of}
-use Rattle.script_model.specs.InPlace.{in_place}
 use Rattle.script_model.specs.Laws.{Laws, IsReady}
 use Rattle.script_model.specs.Sound.{sum_below, ledger, once_if, IsSoundStore, IsSoundConfig}
 use Rattle.kernel_model.specs.UndoLog.{undo_all}
@@ -33,17 +32,17 @@ use Rattle.graft_laws.proofs.MoveLemmas.{count_more}
 use Rattle.graft_laws.proofs.SoundCallLemmas.{contains_first}
 use Rattle.graft_laws.proofs.TurnLemmas.{levels_turn}
 use Rattle.graft_laws.proofs.TurnParts.{IsEnded}
-use Rattle.placed_laws.specs.Placed.{PlacedCall, PlacedLevel, Placed, PlacedRun, has_some, bare, level_with}
+use Rattle.placed_laws.specs.Placed.{PlacedCall, PlacedRun, has_some, bare, level_with}
 use Rattle.placed_laws.specs.Placed.{levels_with, placed_levels, placed_config}
 use Rattle.placed_laws.specs.PlacedSteps.{placed_finish_on, placed_piece_at, placed_piece_step, placed_after_outcome}
 use Rattle.placed_laws.specs.PlacedSteps.{placed_step_by, placed_call_step, placed_step, placed_drop_by, placed_drop}
 use Rattle.placed_laws.specs.PlacedSteps.{placed_requeue}
-use Rattle.placed_laws.specs.Stands.{without_history, StandsFor, RunStandsFor}
+use Rattle.placed_laws.specs.Stands.{without_history, RunStandsFor}
 use Rattle.placed_laws.proofs.AlignLemmas.{over_store, run_over, placed_of}
 use Rattle.placed_laws.proofs.FreeLemmas.{StandsWhere, AtPiece, InGraft, stands_where}
 use Rattle.placed_laws.proofs.Laws.{ready_in_place}
 use Rattle.placed_laws.proofs.SourceLemmas.{IsPlaced, own}
-use Rattle.session_laws.specs.Spending.{steps_of, IsPaidFor, StepsStay, StepIsSpent}
+use Rattle.session_laws.specs.Spending.{steps_of, IsPaidFor}
 use Rattle.session_laws.proofs.SpendingLemmas.{instructions_are_paid_for, removed_steps}
 use Rattle.run_laws.specs.Grants.{steps_spent, SpendsNoSteps, is_instruction, has_step, can_step, is_charged}
 use Rattle.run_laws.specs.Moves.{Steps}

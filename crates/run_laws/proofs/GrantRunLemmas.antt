@@ -1,39 +1,34 @@
 -- All grafts of a run take at most the grant's instructions, and one for each drop.
-use Rattle.std.specs.Prelude.{◌≡◌, ◌≢◌, ℕ, suc, ◌+◌, ◌<◌, ◌≤◌, ◌==◌, not, Bool, true, false, cond, List, [], ◌∷◌, ◌++◌}
-use Rattle.std.specs.Prelude.{map, length, Option, Some, None, Ok, ⊤}
-use Rattle.std.proofs.Common.{arith, refl, subst, sym, ap, ◌∙◌, inl, inr}
-use Rattle.std.proofs.lemmas.Bool.Decides.{nat_tests}
+use Rattle.std.specs.Prelude.{◌≡◌, ℕ, suc, ◌+◌, ◌<◌, ◌≤◌, Bool, true, false, cond, List, [], ◌∷◌, ◌++◌}
+use Rattle.std.specs.Prelude.{map, length, Option, Some, None, ⊤}
+use Rattle.std.proofs.Common.{arith, refl, subst, sym, ap, ◌∙◌}
 use Rattle.script_model.specs.declared.Cause.{Cause}
 use Rattle.script_model.specs.declared.Event.{Event}
-use Rattle.script_model.specs.declared.Keys.{Keys}
 use Rattle.script_model.specs.declared.Kind.{Kind}
 use Rattle.script_model.specs.declared.Kind.TheVariants.{Steps as StepKind}
 use Rattle.script_model.specs.declared.Note.{Note}
 use Rattle.script_model.specs.declared.Note.TheVariants.{Refused}
-use Rattle.script_model.specs.declared.Object.TheVariants.{Acct, Queue}
+use Rattle.script_model.specs.declared.Object.TheVariants.{Acct}
 use Rattle.script_model.specs.declared.Refusal.TheVariants.{TimedOut}
-use Rattle.script_model.specs.declared.SysCall.{SysCall}
 use Rattle.script_model.specs.World.{World, Image, Blocks}
 use Rattle.script_model.specs.Objects.{Objects, AcctValue, at}
-use Rattle.script_model.specs.Events.{in_order, drop_call, entry_action, ticked, times_out, event}
-use Rattle.script_model.specs.History.{Mark}
+use Rattle.script_model.specs.Events.{drop_call, ticked, times_out, event}
 use Rattle.script_model.specs.ImageLines.{add_image}
 use Rattle.script_model.specs.InPlace.{in_place}
-use Rattle.script_model.specs.Kernel.{Call, Blocker, Waiter, Kernel, Run, noted, joins, with_call, has_level}
-use Rattle.script_model.specs.Blocking.{config_in, levels_in, levels_of, trace_of, blocker}
+use Rattle.script_model.specs.Kernel.{Call, Blocker, Waiter, Kernel, Run, noted, joins, with_call}
+use Rattle.script_model.specs.Blocking.{config_in, levels_in, levels_of, trace_of}
 use Rattle.script_model.specs.Laws.{Laws}
 use Rattle.script_model.specs.Levels.{Level}
-use Rattle.script_model.specs.Meaning.{Meaning, Stage}
+use Rattle.script_model.specs.Meaning.{Meaning}
 use Rattle.script_model.specs.Opening.{opening_kernel, opening_objects}
-use Rattle.script_model.specs.Policies.{lives}
-use Rattle.script_model.specs.Session.{Build, whole}
+use Rattle.script_model.specs.Session.{whole}
 use Rattle.script_model.specs.Settle.{rested, step}
-use Rattle.script_model.specs.Sound.{sum_below, once_if, HasWholeBlocks}
+use Rattle.script_model.specs.Sound.{once_if, HasWholeBlocks}
 use Rattle.call_laws.specs.Ledgers.{sum_same, sum_zero}
 use Rattle.graft_laws.specs.Kernels.{IsSoundRun}
 use Rattle.graft_laws.specs.Notes.{is_drop, note_count}
 use Rattle.graft_laws.proofs.MoveLemmas.{count_more}
-use Rattle.placed_laws.specs.Placed.{Placed, PlacedCall, PlacedRun, has_some, bare}
+use Rattle.placed_laws.specs.Placed.{PlacedRun, bare}
 use Rattle.placed_laws.specs.PlacedSteps.{placed_step, placed_drop}
 use Rattle.placed_laws.specs.Stands.{without_history, StandsFor, RunStandsFor}
 use Rattle.placed_laws.proofs.AlignLemmas.{over_store, run_over, aligned, aligned_run}
@@ -43,10 +38,10 @@ use Rattle.placed_laws.proofs.SettleLemmas.{step_there}
 use Rattle.session_laws.specs.Spending.{steps_of}
 use Rattle.session_laws.proofs.SoundLineLemmas.{extends_at}
 use Rattle.run_laws.specs.Grants.{steps_spent, all_spent, SpentWithinGrant, SpendsNoSteps, move_count, is_instruction}
-use Rattle.run_laws.specs.Grants.{is_charged, IsWithinGrant, GrantsBoundGrafts, GrantsBoundAllGrafts}
+use Rattle.run_laws.specs.Grants.{is_charged, GrantsBoundGrafts, GrantsBoundAllGrafts}
 use Rattle.run_laws.specs.Moves.{Move, Steps, Acts, event_moves}
 use Rattle.run_laws.proofs.GrantLemmas.{spent_within, IsPaid, step_paid, time_out_paid}
-use Rattle.run_laws.proofs.MoveLemmas.{new_call, Kept, On, event_kept}
+use Rattle.run_laws.proofs.MoveLemmas.{new_call, Kept, event_kept}
 use Rattle.run_laws.proofs.RunLemmas.{run_at, IsKept, runs_kept}
 use Rattle.run_laws.proofs.PieceSpendingLemmas.{all_calls_spend_no_steps}
 

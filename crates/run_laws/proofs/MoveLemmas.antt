@@ -18,7 +18,7 @@ use Rattle.script_model.specs.Meaning.{Meaning, Stage}
 use Rattle.script_model.specs.Levels.{Level}
 use Rattle.script_model.specs.Locks.{outermost_holding}
 use Rattle.script_model.specs.History.{Mark, Trace}
-use Rattle.script_model.specs.Kernel.{Call, Blocker, Waiter, Kernel, Run, noted, joins, with_call, has_level}
+use Rattle.script_model.specs.Kernel.{Call, Blocker, Waiter, Run, noted, joins, with_call, has_level}
 use Rattle.script_model.specs.Blocking.{trace_of, levels_of, holds, needs, blocker}
 use Rattle.script_model.specs.Settle.{first_free, rested, settle, settled, step}
 use Rattle.script_model.specs.Events.{MOST_STEPS, in_order, innermost, wanted, expired, ticked, waits_note, graft_note}

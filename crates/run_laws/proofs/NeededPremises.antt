@@ -1,5 +1,5 @@
 -- A premise that can't be left out: a small example in which a law without it would be false.
-use Rattle.std.specs.Prelude.{◌≡◌, ℕ, false, List, [], ◌∷◌, Option, Some, None}
+use Rattle.std.specs.Prelude.{◌≡◌, ℕ, false, List, [], ◌∷◌, Some, None}
 use Rattle.std.proofs.Common.{refl}
 use Rattle.script_model.specs.declared.Reply.TheVariants.{One}
 use Rattle.script_model.specs.declared.SysCall.TheVariants.{Sync}

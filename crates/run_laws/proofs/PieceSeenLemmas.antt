@@ -1,13 +1,11 @@
 -- What each piece of a system call does to what is seen of blocks.
-use Rattle.std.specs.Prelude.{◌≡◌, ◌≢◌, ◌⊎◌, ℕ, zero, suc, ◌+◌, ◌<◌, ◌==◌, Bool, true, false, cond}
-use Rattle.std.specs.Prelude.{not, nat_lt, List, []}
+use Rattle.std.specs.Prelude.{◌≡◌, ℕ, zero, suc, ◌+◌, Bool, true, false, cond}
+use Rattle.std.specs.Prelude.{nat_lt, List, []}
 use Rattle.std.specs.Prelude.{◌∷◌, length, slice_range, option_map, Option, Some, None, Result, Ok, Err}
 use Rattle.std.proofs.Common.{arith, refl, sym, ap, subst, ◌∙◌, inl, inr}
-use Rattle.std.proofs.lemmas.Bool.Decides.{nat_tests}
 use Rattle.script_model.specs.declared.OpenRow.{OpenRow}
 use Rattle.script_model.specs.declared.Refusal.{Refusal}
 use Rattle.script_model.specs.declared.Refusal.TheVariants.{BadFd, DiskFault, PortFull, Short}
-use Rattle.script_model.specs.declared.Reply.{Reply}
 use Rattle.script_model.specs.declared.SysCall.{SysCall}
 use Rattle.script_model.specs.declared.SysCall.TheVariants.{Spawn, Exit, Yield, OpenName, CloseFd}
 use Rattle.script_model.specs.declared.SysCall.TheVariants.{Read, Write, Sync, TakeLock, FreeLock}
@@ -21,12 +19,12 @@ use Rattle.script_model.specs.AllCalls.{all_calls}
 use Rattle.script_model.specs.EventPoints.{is_event_call, event_points, event_piece, handler_joins, handler_leaves}
 use Rattle.script_model.specs.EventPoints.{serve_piece, with_handlers}
 use Rattle.script_model.specs.Fetch.{Fetched, Got, Failed, fetch, fetch_ahead, bytes_of, with_patch, dirty_value}
-use Rattle.script_model.specs.FilePieces.{leaves, refuses, well, disk_failed, free_descriptor, open_piece, close_piece}
+use Rattle.script_model.specs.FilePieces.{leaves, refuses, well, free_descriptor, open_piece, close_piece}
 use Rattle.script_model.specs.FilePieces.{read_piece, read_first, read_third, read_first_at, read_third_at}
 use Rattle.script_model.specs.FilePieces.{write_fetched, write_piece, sync_from}
 use Rattle.script_model.specs.Handlers.{has_room, handlers_with}
-use Rattle.script_model.specs.Laws.{Laws, IsReady}
-use Rattle.script_model.specs.Meaning.{Stage, Answer, Piece, After, Continues, EndsWith, Fails, registers_of}
+use Rattle.script_model.specs.Laws.{Laws}
+use Rattle.script_model.specs.Meaning.{Stage, Answer, Piece, Continues, Fails, registers_of}
 use Rattle.script_model.specs.Pieces.{plain_calls, piece_of, handed_over, spawn_piece, yield_piece, exit_piece}
 use Rattle.script_model.specs.Pieces.{lock_piece, unlock_piece, tune_piece, give_piece, pay_piece, install_piece}
 use Rattle.script_model.specs.Pieces.{remove_piece, fund_piece, bill_piece, new_graft, with_new_graft, accounts_funded}
@@ -45,9 +43,9 @@ use Rattle.call_laws.specs.SoundCaches.{IsSoundCache, cache_of_store}
 use Rattle.call_laws.specs.SoundFiles.{file_block_is}
 use Rattle.call_laws.specs.StreamLaws.{laws_of_stream_points}
 use Rattle.call_laws.specs.Syncs.{dirty_in_use}
-use Rattle.session_laws.specs.Syncs.{IsWrittenBack, IsHeldDirty, WritesBackAlone}
+use Rattle.session_laws.specs.Syncs.{IsWrittenBack, WritesBackAlone}
 use Rattle.session_laws.proofs.SyncLemmas.{syncs_write_back_alone}
-use Rattle.run_laws.specs.Seen.{seen_block, IsCoherent, ShowsSame, ShowsPut, WritesSeen, Put}
+use Rattle.run_laws.specs.Seen.{seen_block, IsCoherent, ShowsPut, WritesSeen, Put}
 use Rattle.run_laws.specs.Seen.{put_of, put_by, KeepsShown}
 use Rattle.run_laws.specs.Seen.{PiecesKeepShown}
 use Rattle.run_laws.proofs.SeenLemmas.{IsNowhere, seen_held, seen_nowhere, Shown, shows_same, shown_self, fetch_shown}

@@ -2,7 +2,7 @@
 use Rattle.std.specs.Prelude.{◌≡◌, ◌≢◌, ℕ, zero, suc, ◌+◌, ◌<◌, ◌==◌, Bool, true, false, cond, nat_lt, List, [], ◌∷◌}
 use Rattle.std.specs.Prelude.{length, Option, Some, None, Result, Ok, Err}
 use Rattle.std.specs.Result.{is_ok}
-use Rattle.std.proofs.Common.{arith, refl, ap, sym, subst, ◌∙◌}
+use Rattle.std.proofs.Common.{arith, refl, ap, sym, ◌∙◌}
 use Rattle.std.proofs.lemmas.Bool.Decides.{nat_tests}
 use Rattle.script_model.specs.declared.Kind.{Kind}
 use Rattle.script_model.specs.declared.Kind.TheVariants.{Steps}
@@ -17,14 +17,13 @@ use Rattle.script_model.specs.declared.SysCall.TheVariants.{StreamWrite}
 use Rattle.script_model.specs.World.{World, ImageTable, Blocks, file_named}
 use Rattle.script_model.specs.Objects.{Objects, Accounts, AcctValue, GraftValue, at, with_accounts}
 use Rattle.script_model.specs.AllCalls.{all_calls}
-use Rattle.script_model.specs.Charges.{removed, removed_by}
+use Rattle.script_model.specs.Charges.{removed}
 use Rattle.script_model.specs.Early.{begins_unless}
 use Rattle.script_model.specs.EventPoints.{is_event_call, event_piece, handler_joins, handler_leaves, serve_piece}
 use Rattle.script_model.specs.EventPoints.{with_handlers}
 use Rattle.script_model.specs.Handlers.{has_room, handlers_with}
 use Rattle.script_model.specs.Fetch.{Fetched, Got, Failed, fetch}
 use Rattle.script_model.specs.FilePieces.{leaves, refuses, well, free_descriptor}
-use Rattle.script_model.specs.Laws.{IsReady}
 use Rattle.script_model.specs.Meaning.{Stage, Answer, Piece, registers_of}
 use Rattle.kernel_model.specs.Needs.{free_process, file_block}
 use Rattle.script_model.specs.Pieces.{piece_of, exit_piece, without_grafts, account_closed}
@@ -32,7 +31,7 @@ use Rattle.script_model.specs.Pieces.{empty_account, joint_account}
 use Rattle.script_model.specs.Pieces.{give_piece, pay_piece, less, more, install_piece, new_graft, remove_piece}
 use Rattle.script_model.specs.Pieces.{fund_piece, bill_piece, with_graft, with_new_graft, accounts_funded}
 use Rattle.script_model.specs.Policies.{lives}
-use Rattle.script_model.specs.StreamPoints.{is_stream_point, is_stream_call, stream_piece, stream_read_piece}
+use Rattle.script_model.specs.StreamPoints.{is_stream_call, stream_piece, stream_read_piece}
 use Rattle.script_model.specs.StreamPoints.{stream_write_piece, stream_fetches, stream_taken, stream_changed, through}
 use Rattle.call_laws.specs.Ledgers.{at_here, at_other, sum_one, sum_same}
 use Rattle.call_laws.specs.SameAccounts.{spawn_accounts, yield_accounts, open_leaves, close_leaves}

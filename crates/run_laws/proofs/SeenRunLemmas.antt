@@ -1,35 +1,27 @@
 -- What is seen of blocks changes by writes alone, through each move of a run.
-use Rattle.std.specs.Prelude.{◌≡◌, ◌≢◌, ◌⊎◌, ℕ, zero, suc, ◌+◌, ◌<◌, Bool, true, false, List, [], ◌∷◌, ◌++◌, length}
+use Rattle.std.specs.Prelude.{◌≡◌, ◌⊎◌, ℕ, ◌+◌, List, [], ◌∷◌, ◌++◌, length}
 use Rattle.std.specs.List.{AllByRecursion}
-use Rattle.std.specs.Prelude.{slice_range, Contains, ⊤, Option, Some, None, Result, Ok, Err}
+use Rattle.std.specs.Prelude.{slice_range, Contains, Option, Some, None}
 use Rattle.std.proofs.Common.{arith, refl, subst, sym, ap, ◌∙◌, inl, inr}
 use Rattle.std.proofs.lemmas.Bool.{cases_eq}
 use Rattle.std.proofs.lemmas.List.{append-nil}
 use Rattle.std.proofs.lemmas.List.Elements.{Contains-append_left, Contains-append_right}
 use Rattle.script_model.specs.declared.Cause.{Cause}
-use Rattle.script_model.specs.declared.Event.{Event}
-use Rattle.script_model.specs.declared.Keys.{Keys}
 use Rattle.script_model.specs.declared.Note.{Note}
 use Rattle.script_model.specs.declared.Note.TheVariants.{Gave}
 use Rattle.script_model.specs.declared.OpenRow.{OpenRow}
-use Rattle.script_model.specs.declared.Refusal.{Refusal}
-use Rattle.script_model.specs.declared.Reply.{Reply}
 use Rattle.script_model.specs.declared.Reply.TheVariants.{Plain, One, Two}
-use Rattle.script_model.specs.declared.SysCall.{SysCall}
 use Rattle.script_model.specs.declared.SysCall.TheVariants.{Read, StreamRead}
-use Rattle.script_model.specs.Directory.{Disk}
-use Rattle.script_model.specs.World.{World, Image, Blocks}
+use Rattle.script_model.specs.World.{World, Blocks}
 use Rattle.script_model.specs.Alike.{AreAlike, windowless}
 use Rattle.script_model.specs.AllCalls.{all_calls}
-use Rattle.script_model.specs.Events.{drop_call, entry_action, times_out, event}
+use Rattle.script_model.specs.Events.{drop_call, entry_action, times_out}
 use Rattle.script_model.specs.Fetch.{bytes_with}
 use Rattle.script_model.specs.FilePieces.{well}
-use Rattle.script_model.specs.ImageLines.{add_image}
-use Rattle.script_model.specs.Kernel.{Call, Blocker, Waiter, Kernel, Run, call_after, gave_note, after_note}
-use Rattle.script_model.specs.Laws.{Laws, IsReady}
+use Rattle.script_model.specs.Kernel.{Call, Waiter, Run, call_after, gave_note, after_note}
+use Rattle.script_model.specs.Laws.{IsReady}
 use Rattle.script_model.specs.Meaning.{Stage, Answer, Piece, After, Continues, EndsWith, Fails}
 use Rattle.script_model.specs.Objects.{Objects, CacheValue, FrameValue, at}
-use Rattle.script_model.specs.Opening.{opening_kernel}
 use Rattle.script_model.specs.Session.{whole}
 use Rattle.script_model.specs.Settle.{step}
 use Rattle.kernel_model.specs.Needs.{file_block}
@@ -38,10 +30,9 @@ use Rattle.call_laws.specs.SoundCaches.{cache_of_store}
 use Rattle.kernel_laws.proofs.LevelLemmas.{each_contains}
 use Rattle.graft_laws.specs.Kernels.{IsSoundRun}
 use Rattle.graft_laws.proofs.SoundCallLemmas.{contains_first}
-use Rattle.session_laws.specs.Sessions.{run_of}
-use Rattle.run_laws.specs.Moves.{Move, Steps, Acts, run_before, run_after, event_moves, moves_of}
-use Rattle.run_laws.specs.Seen.{seen_block, IsCoherent, ShowsSame, ShowsPut, WritesSeen, Put, put_by, KeepsShown}
-use Rattle.run_laws.specs.SeenRuns.{seen_in, Names, IsPut, GoesOn, MoveKeepsShown, RunsKeepShown, RunsAreCoherent}
+use Rattle.run_laws.specs.Moves.{Move, Steps, Acts, run_before, run_after, moves_of}
+use Rattle.run_laws.specs.Seen.{seen_block, IsCoherent, ShowsSame, ShowsPut, Put, put_by, KeepsShown}
+use Rattle.run_laws.specs.SeenRuns.{seen_in, Names, GoesOn, MoveKeepsShown, RunsKeepShown, RunsAreCoherent}
 use Rattle.run_laws.specs.SeenRuns.{BlocksWereSeen}
 use Rattle.run_laws.specs.Streams.{answer_given}
 use Rattle.run_laws.proofs.CommitLemmas.{piece_on, Commits, Done, Stays, step_commits, drop_commits}
@@ -219,7 +210,8 @@ module _ (r u : Run) (q : ℕ) (c : Call) (is : r.kernel.call q ≡ Some c) (sou
             ∙ ap (λ a. ((r.notes ++ pre) ++ Gave c.number bytes ∷ []) ++ after_note c.number a) k.3
             ∙ append-nil ((r.notes ++ pre) ++ Gave c.number bytes ∷ [])
             ∙ ap (λ ys. (r.notes ++ pre) ++ Gave c.number (slice_range ys off (off + len)) ∷ []) (shown_on.1 gives.0)
-            ∙ ap (λ (y : Call). (r.notes ++ pre) ++ Gave y.number (slice_range (seen_in r gives.0) off (off + len)) ∷ [])
+            ∙ ap (λ (y : Call). (r.notes ++ pre) ++ Gave y.number (slice_range (seen_in r gives.0) off
+            (off + len)) ∷ [])
             (sym k.1),
       )
 

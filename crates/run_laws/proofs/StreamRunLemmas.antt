@@ -1,6 +1,6 @@
 -- What streams give and put, through each move of a run.
-use Rattle.std.specs.Prelude.{◌≡◌, ◌≢◌, ℕ, zero, suc, ◌+◌, ◌-◌, ◌<◌, ◌≤◌, ◌==◌, nat_lt, ⊤, Bool, true}
-use Rattle.std.specs.Prelude.{false, cond, List, [], ◌∷◌, ◌++◌, length, drop, slice_range, Contains, Option, Some}
+use Rattle.std.specs.Prelude.{◌≡◌, ℕ, zero, suc, ◌+◌, ◌-◌, ◌<◌, ◌≤◌, nat_lt, ⊤, Bool, true}
+use Rattle.std.specs.Prelude.{false, cond, List, [], ◌∷◌, ◌++◌, length, drop, slice_range, Option, Some}
 use Rattle.std.specs.Prelude.{None, Result, Ok, Err}
 use Rattle.std.specs.List.{AllByRecursion}
 use Rattle.std.specs.Result.{is_ok}
@@ -9,7 +9,6 @@ use Rattle.std.proofs.lemmas.Bool.{cases_eq}
 use Rattle.std.proofs.lemmas.Bool.Decides.{nat_tests}
 use Rattle.std.proofs.lemmas.List.{length-take, length-drop}
 use Rattle.script_model.specs.declared.Cause.{Cause}
-use Rattle.script_model.specs.declared.Event.{Event}
 use Rattle.script_model.specs.declared.Note.{Note}
 use Rattle.script_model.specs.declared.Note.TheVariants.{Gave, Ended, Refused}
 use Rattle.script_model.specs.declared.QueueRow.{QueueRow}
@@ -45,7 +44,7 @@ use Rattle.call_laws.specs.SoundFiles.{file_block_is}
 use Rattle.call_laws.specs.StreamCarried.{through_length}
 use Rattle.kernel_laws.proofs.LevelLemmas.{each_contains}
 use Rattle.graft_laws.specs.Kernels.{IsSoundRun}
-use Rattle.run_laws.specs.Moves.{Move, Steps, Acts, run_before, run_after, event_moves, moves_of}
+use Rattle.run_laws.specs.Moves.{Move, Steps, Acts, run_before, run_after, moves_of}
 use Rattle.run_laws.specs.Seen.{IsCoherent}
 use Rattle.run_laws.specs.SeenRuns.{seen_in, Names, GoesOn, MoveKeepsShown}
 use Rattle.run_laws.specs.Streams.{answer_given, MoveKeepsStreams, RunsKeepStreams}
@@ -312,7 +311,8 @@ module _ (r u : Run) (q : ℕ) (c : Call) (is : r.kernel.call q ≡ Some c) (sou
           }) s goes)) in (
             bytes,
             ap (λ (ys : List ℕ). length ys) bytes
-                ∙ through_length w q WRITE_POINT i off fd given answer (few (length given) within) refl right ready.body,
+                ∙ through_length w q WRITE_POINT i off fd given answer (few
+                (length given) within) refl right ready.body,
           )
 
   piece_streams : MoveKeepsStreams answer r u

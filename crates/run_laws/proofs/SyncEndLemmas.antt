@@ -1,22 +1,21 @@
 -- A `sync` that ends well leaves no dirty frame, and the disk as the cache has it.
-use Rattle.std.specs.Prelude.{◌≡◌, ◌≢◌, ◌⊎◌, ℕ, zero, suc, ◌+◌, ◌<◌, ◌==◌, Bool, true, false, cond}
+use Rattle.std.specs.Prelude.{◌≡◌, ◌≢◌, ◌⊎◌, ℕ, zero, suc, ◌+◌, ◌<◌, Bool, true, false, cond}
 use Rattle.std.specs.Prelude.{List, Option, Some, None}
 use Rattle.std.specs.Prelude.{is_some}
 use Rattle.std.proofs.Common.{arith, refl, sym, ap, subst, ◌∙◌, inl, inr}
 use Rattle.std.proofs.lemmas.Bool.{cases_eq}
 use Rattle.script_model.specs.declared.Refusal.TheVariants.{DiskFault}
 use Rattle.script_model.specs.declared.Reply.{Reply}
-use Rattle.script_model.specs.World.{World, Blocks}
+use Rattle.script_model.specs.World.{Blocks}
 use Rattle.script_model.specs.Objects.{Objects, FrameValue, at}
 use Rattle.script_model.specs.Fetch.{dirty_value, cleaned}
 use Rattle.script_model.specs.FilePieces.{with_cache, disk_failed, sync_from}
-use Rattle.script_model.specs.Meaning.{Piece, After, EndsWith, Fails, disk_fails}
-use Rattle.script_model.specs.Sound.{IsSoundStore}
+use Rattle.script_model.specs.Meaning.{Piece, EndsWith, Fails, disk_fails}
 use Rattle.call_laws.specs.Ledgers.{at_here, at_other}
 use Rattle.call_laws.specs.Syncs.{dirty_in_use}
 use Rattle.session_laws.specs.Syncs.{IsWrittenBack}
 use Rattle.session_laws.proofs.SyncLemmas.{syncs_write_back_alone}
-use Rattle.run_laws.specs.Seen.{IsCoherent, SyncsEndWritten}
+use Rattle.run_laws.specs.Seen.{SyncsEndWritten}
 use Rattle.run_laws.proofs.PieceSeenLemmas.{sync_shown}
 
 -- the frames below a number are clean

@@ -1,5 +1,5 @@
 -- What all grafts of a run take together: a grant bounds them all.
-use Rattle.std.specs.Prelude.{◌≡◌, ℕ, suc, ◌+◌, ◌≤◌, Bool, true, false, not, cond, List, [], ◌∷◌}
+use Rattle.std.specs.Prelude.{◌≡◌, ℕ, suc, ◌+◌, ◌≤◌, Bool, false, not, cond, List, [], ◌∷◌}
 use Rattle.std.specs.Prelude.{Option, Some, None}
 use Rattle.script_model.specs.declared.Keys.{Keys}
 use Rattle.script_model.specs.declared.Kind.{Kind}

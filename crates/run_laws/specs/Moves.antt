@@ -1,7 +1,7 @@
 -- What lines of a script go through, move by move. A move is a step of a call, or the action of a
 -- tick for a call that waited too long. Each definition goes the way of the abstract kernel's own
 -- of that name, and keeps the moves alone.
-use Rattle.std.specs.Prelude.{◌≡◌, ℕ, zero, suc, Bool, true, false, not, ◌&&◌, nat_le, List, []}
+use Rattle.std.specs.Prelude.{ℕ, zero, suc, Bool, true, false, not, ◌&&◌, nat_le, List, []}
 use Rattle.std.specs.Prelude.{◌∷◌}
 use Rattle.std.specs.Prelude.{◌++◌, Option, Some, None, Result, Ok, Err}
 use Rattle.script_model.specs.declared.Event.{Event}

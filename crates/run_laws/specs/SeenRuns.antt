@@ -1,7 +1,7 @@
 -- What is seen of blocks through the moves of a run.
 use Rattle.std.specs.Prelude.{◌≡◌, ◌⊎◌, ℕ, ◌+◌, Bool, List, [], ◌∷◌, ◌++◌, length, slice_range}
 use Rattle.std.specs.Prelude.{Contains}
-use Rattle.std.specs.Prelude.{Option, Some, Ok}
+use Rattle.std.specs.Prelude.{Some, Ok}
 use Rattle.script_model.specs.declared.Keys.{Keys}
 use Rattle.script_model.specs.declared.Note.{Note}
 use Rattle.script_model.specs.declared.Note.TheVariants.{Gave}
