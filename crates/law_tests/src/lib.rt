@@ -10,4 +10,6 @@ mod kernels;
 #[cfg(test)]
 mod places;
 #[cfg(test)]
+mod runs;
+#[cfg(test)]
 mod sessions;

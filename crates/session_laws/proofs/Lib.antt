@@ -28,4 +28,6 @@ pub mod ServeOtherLemmas
 pub mod ServeFreshLemmas
 pub mod ServingLemmas
 pub mod SentLemmas
+pub mod LineDoesLemmas
+pub mod ServedLineLemmas
 mod ServedPremises

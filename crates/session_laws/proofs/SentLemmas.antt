@@ -68,12 +68,13 @@ marks_own n p l call notes q c d e same stays h =
         }
 
 -- a call of another number begins
-served_begins : (n p : ℕ) (l : Shown) (call : ℕ → Option Call) (notes : List Note) (q : ℕ) (c : Call) → c.number ≢ n →
+pub served_begins : (n p : ℕ) (l : Shown) (call : ℕ → Option Call) (notes : List Note) (q : ℕ) (c : Call) →
+    c.number ≢ n →
     IsServed n p l call notes → IsServed n p l (at q (Some c) call) notes
 served_begins n p l call notes q c ne h =
     served_left n p l l call (at q (Some c) call) notes notes h (marks_leaves n l call notes q c ne)
 
-served_kept : (m : Meaning) (n p : ℕ) → MeansServe m → IsKept m (IsServed n p)
+pub served_kept : (m : Meaning) (n p : ℕ) → MeansServe m → IsKept m (IsServed n p)
 served_kept m n p serves =
     record {
       lines =
@@ -120,7 +121,7 @@ fresh_tells n l call notes h =
     }
 
 -- no call has the number yet
-fresh_served : (n p : ℕ) (l : Shown) (call : ℕ → Option Call) (notes : List Note) →
+pub fresh_served : (n p : ℕ) (l : Shown) (call : ℕ → Option Call) (notes : List Note) →
     IsFresh n l call notes → IsServed n p l call notes
 fresh_served n p l call notes h =
     record { told = fresh_tells n l call notes h; flight = λ q c e same. absurd (h.calls q c e same) }
@@ -132,7 +133,8 @@ err_stage : (why : Refusal) (t : Stage) → ◌≡◌ {A = Result Stage Refusal}
 err_stage why t e = cc
 
 -- the stage at which it begins
-stage_is : (m : Meaning) → MeansServe m → (v : World) (images : ImageTable) (p port : ℕ) (bytes : List ℕ) (t : Stage) →
+pub stage_is : (m : Meaning) → MeansServe m →
+    (v : World) (images : ImageTable) (p port : ℕ) (bytes : List ℕ) (t : Stage) →
     m.early v images p (Serve port bytes) ≡ Ok t → t ≡ stage (Serve port bytes) 0
 stage_is m serves v images p port bytes t e =
     by_refusal (event_refusal v images p (Serve port bytes)) (sym (serves.early v images p port bytes) ∙ e)
@@ -142,7 +144,8 @@ stage_is m serves v images p port bytes t e =
     by_refusal (Some why) e = absurd (err_stage why t e)
 
 -- the call is in flight
-serve_begins : (n p port : ℕ) (bytes : List ℕ) (l : Shown) (call : ℕ → Option Call) (notes : List Note) (t : Stage) →
+pub serve_begins : (n p port : ℕ) (bytes : List ℕ) (l : Shown) (call : ℕ → Option Call) (notes : List Note)
+    (t : Stage) →
     t ≡ stage (Serve port bytes) 0 → IsFresh n l call notes →
     IsServed n p l (at p (Some (record { number = n; stage = t; marks = None })) call) notes
 serve_begins n p port bytes l call notes t e h =
@@ -179,7 +182,7 @@ serve_begins n p port bytes l call notes t e h =
 -- ---- behind the notes of earlier events
 
 -- what is kept is kept with earlier notes before
-abbrev behind : List Note → (Shown → (ℕ → Option Call) → List Note → Type 0) → Shown →
+abbrev pub behind : List Note → (Shown → (ℕ → Option Call) → List Note → Type 0) → Shown →
     (ℕ → Option Call) → List Note → Type 0
 behind earlier Q l call notes = Q l call (earlier ++ notes)
 
@@ -193,7 +196,8 @@ done_behind : (earlier notes gave after : List Note) →
 done_behind earlier notes gave after =
     ap (λ xs. xs ++ after) (append_assoc earlier notes gave) ∙ append_assoc earlier (notes ++ gave) after
 
-behind_kept : (m : Meaning) (Q : Shown → (ℕ → Option Call) → List Note → Type 0) (earlier : List Note) → IsKept m Q →
+pub behind_kept : (m : Meaning) (Q : Shown → (ℕ → Option Call) → List Note → Type 0) (earlier : List Note) →
+    IsKept m Q →
     IsKept m (behind earlier Q)
 behind_kept m Q earlier kept =
     record {

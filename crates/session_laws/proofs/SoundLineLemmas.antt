@@ -102,7 +102,7 @@ line_no_boot text = by_length (nat_lt LINE_BYTES (length text))
 -- ---- lines
 
 -- an image in a slot that was free
-extends_at : (slot : ℕ) (i : Image) (images : ImageTable) → images slot ≡ None →
+pub extends_at : (slot : ℕ) (i : Image) (images : ImageTable) → images slot ≡ None →
     Extends images (at slot (Some i) images)
 extends_at slot i images free =
     λ j x e. at_other slot j (Some i) images (λ same. taken j x e (ap images same ∙ free)) ∙ e

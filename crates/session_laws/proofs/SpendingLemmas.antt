@@ -74,7 +74,8 @@ charge_stays k a q pt other low some = record {
 }
 
 -- a graft that is taken out has spent what it has
-removed_steps : (a : Accounts) (q pt r : ℕ) (g : Option GraftValue) → steps_of (removed_by q pt g a) r ≡ steps_of a r
+pub removed_steps : (a : Accounts) (q pt r : ℕ) (g : Option GraftValue) →
+    steps_of (removed_by q pt g a) r ≡ steps_of a r
 removed_steps a q pt r None = refl
 removed_steps a q pt r (Some g) = same_steps q r (returned g (a.acct q)) a.acct refl
 

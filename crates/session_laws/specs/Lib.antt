@@ -1,6 +1,7 @@
 pub mod Answers
 pub mod Clock
 pub mod Counts
+pub mod Lines
 pub mod NoteNumbers
 pub mod Sessions
 pub mod Slices

@@ -1,8 +1,9 @@
 -- A `serve` sends what its handlers answer.
-use Rattle.std.specs.Prelude.{◌≡◌, ◌≢◌, ◌⊎◌, ⊤, ℕ, Bool, List, [], ◌∷◌, ◌++◌, length, Option, Some, Contains}
+use Rattle.std.specs.Prelude.{◌≡◌, ◌≢◌, ◌⊎◌, ⊤, ℕ, suc, Bool, List, [], ◌∷◌, ◌++◌, length, Option, Some, Contains}
 use Rattle.std.specs.List.{AllByRecursion}
 use Rattle.script_model.specs.declared.Event.{Event}
 use Rattle.script_model.specs.declared.Event.TheVariants.{Sys}
+use Rattle.script_model.specs.declared.Keys.{Keys}
 use Rattle.script_model.specs.declared.SysCall.TheVariants.{Serve}
 use Rattle.script_model.specs.declared.Note.{Note}
 use Rattle.script_model.specs.declared.Note.TheVariants.{Ended}
@@ -12,8 +13,13 @@ use Rattle.script_model.specs.Objects.{Objects}
 use Rattle.script_model.specs.Meaning.{Meaning, Stage, Answer}
 use Rattle.script_model.specs.Kernel.{Call, Kernel}
 use Rattle.script_model.specs.EventPoints.{event_points}
-use Rattle.session_laws.specs.Shown.{run_from}
+use Rattle.script_model.specs.Directory.{Disk}
+use Rattle.script_model.specs.Session.{Build, first_session, after_lines, whole}
+use Rattle.session_laws.specs.Lines.{line_event, lines_show}
+use Rattle.session_laws.specs.Sessions.{run_of}
+use Rattle.session_laws.specs.Shown.{run_from, event_on_shows}
 use Rattle.session_laws.specs.Sent.{those, sent, given, run_answers, run_completed, run_taken}
+use Rattle.session_laws.specs.Sent.{step_answers, step_completed, step_taken}
 
 -- ---- premises
 
@@ -70,3 +76,29 @@ ServesTellAnswers m =
 -- so it is with each table whose `serve` is that of the event points
 abbrev pub EachServeTellsAnswers : Type 0
 EachServeTellsAnswers = (m : Meaning) → MeansServe m → ServesTellAnswers m
+
+-- ---- over lines
+
+-- In each run of a script, from its first line on and over any disk: where a line is run as a
+-- `serve`, the notes with its event's number tell its answers, whatever the lines before and after
+-- it say. Images are loaded among them, and no premise is on numbers: those of a run rise.
+abbrev pub LinesTellAnswers : Build → Type 0
+LinesTellAnswers b =
+    (keys : Keys) (d : Disk) (before after : List (List ℕ)) (text : List ℕ)
+    (ios : List (List Bool)) (p port : ℕ) (bytes : List ℕ) →
+    let s = run_of b keys d before ios in
+    line_event s text ≡ Some (Sys p (Serve port bytes)) →
+    let texts = before ++ text ∷ after in
+    let first = first_session d in
+    TellAnswers (suc s.events) (after_lines b keys d.size first texts ios).notes
+    (lines_show (event_on_shows b.meaning (step_answers b.meaning)) b keys d.size first texts ios)
+    (lines_show (event_on_shows b.meaning (step_completed b.meaning)) b keys d.size first texts ios)
+    (lines_show (event_on_shows b.meaning step_taken) b keys d.size first texts ios)
+
+-- so it is with each table whose `serve` is that of the event points
+abbrev pub EachLineTellsAnswers : Type 0
+EachLineTellsAnswers = (b : Build) → MeansServe b.meaning → LinesTellAnswers b
+
+-- and with the program's
+abbrev pub RunsTellAnswers : Type 0
+RunsTellAnswers = LinesTellAnswers whole

@@ -1,0 +1,5 @@
+pub mod Moves
+pub mod Grants
+pub mod Seen
+pub mod SeenRuns
+pub mod Streams
