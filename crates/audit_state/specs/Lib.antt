@@ -1,0 +1,5 @@
+pub mod Accounts
+pub mod Things
+pub mod Access
+pub mod Worlds
+pub mod Rows
