@@ -3,3 +3,5 @@ pub mod Things
 pub mod Access
 pub mod Worlds
 pub mod Rows
+pub mod Points
+pub mod Files

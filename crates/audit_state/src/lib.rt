@@ -9,11 +9,14 @@ use audit_table::Row;
 use kernel_model::{Cause, Inverse, OpenRow, QueueRow};
 use std::rc::Rc;
 
+pub mod access;
 mod cache;
 mod changes;
 mod charges;
 mod copies;
+mod files;
 mod lists;
+pub mod policies;
 mod processes;
 pub mod sample;
 mod sums;
@@ -101,4 +104,42 @@ pub enum Accessed {
     Gives(u32),
     Changes(u32, Inverse),
     Refuses(Cause),
+}
+
+/// A plain accessor.
+#[derive(Clone, Copy)]
+pub enum Callable {
+    CellGet,
+    CellSet,
+    NiceGet,
+    NiceSet,
+    WindowGet,
+    WindowSet,
+    FramesMine,
+    FrameAt,
+    FrameBlock,
+    FrameMark,
+    TuneGet,
+    TuneSet,
+    TakeLock,
+}
+
+/// What kind of point a number names: one that reads ahead, evicts, chooses a process, serves events
+/// or changes a stream.
+#[derive(Clone, Copy)]
+pub enum PointKind {
+    Ahead,
+    Victim,
+    Next,
+    Serve,
+    Stream,
+}
+
+/// A file of the directory without its name: its first block, how many blocks it has, and how many
+/// bytes.
+#[derive(Clone, Copy)]
+pub struct Extent {
+    pub start: u32,
+    pub blocks: u32,
+    pub length: u32,
 }
