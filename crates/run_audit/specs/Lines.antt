@@ -1,0 +1,45 @@
+-- The lines of two texts, one beside the other: whether the texts are one, and in which line they
+-- differ first.
+use Rattle.std.specs.Prelude.{ℕ, suc, true, false, ◌==◌, List, [], ◌∷◌, ◌++◌, Option, None, Some}
+use Rattle.kernel_data.specs.World.{same_bytes}
+use Rattle.run_audit.specs.declared.Verdict.{Verdict}
+use Rattle.run_audit.specs.declared.Verdict.TheVariants.{Yes, No}
+
+-- what is left behind the last newline is a line too, if it is anything
+abbrev pub last_piece : List ℕ → List (List ℕ)
+last_piece [] = []
+last_piece (b ∷ bs) = (b ∷ bs) ∷ []
+
+-- the lines of a text, each with its newline, where `line` came before; a last piece that has no
+-- newline is a line too
+abbrev pub lines_from : List ℕ → List ℕ → List (List ℕ)
+lines_from line [] = last_piece line
+lines_from line (b ∷ bs) =
+    elim (b == 10) [
+      | true ↦ (line ++ b ∷ []) ∷ lines_from [] bs
+      | false ↦ lines_from (line ++ b ∷ []) bs
+    ]
+
+-- the lines of a text, each with its newline
+abbrev pub lines_of : List ℕ → List (List ℕ)
+lines_of text = lines_from [] text
+
+-- the number of the first line that differs, or that only one of two lists has, where the first
+-- line is number n
+abbrev pub first_difference : ℕ → List (List ℕ) → List (List ℕ) → Option ℕ
+first_difference n [] [] = None
+first_difference n [] (y ∷ ys) = Some n
+first_difference n (x ∷ xs) [] = Some n
+first_difference n (x ∷ xs) (y ∷ ys) =
+    elim (same_bytes x y) [ true ↦ first_difference (suc n) xs ys | false ↦ Some n ]
+
+-- yes where there is no difference
+abbrev pub verdict_by : Option ℕ → Verdict
+verdict_by None = Yes
+verdict_by (Some n) = No n
+
+-- The verdict on a claim of what is written: yes where it is that, and else the number, from 1, of
+-- the first line that differs or that only one of the two has. A line without a newline differs
+-- from the same line with one.
+abbrev pub verdict : (claim wanted : List ℕ) → Verdict
+verdict claim wanted = verdict_by (first_difference 1 (lines_of claim) (lines_of wanted))
