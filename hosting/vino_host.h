@@ -1,4 +1,4 @@
-/* vino_host.h: a proved sandbox for plug-ins, as a static library. Version 0.9.0.
+/* vino_host.h: a proved sandbox for plug-ins, as a static library.
  *
  * A plug-in is a sealed image (docs/FORMATS.md, "Images"): code of at most 1,024 instructions and at
  * most 4,096 bytes of data. The host loads it once and calls it as often as it likes, each time with a
@@ -161,6 +161,10 @@ uint32_t vino_begin(const vino_plugin *plugin, vino_call *call, const vino_reque
 uint32_t vino_resume(const vino_plugin *plugin, vino_call *call, uint32_t how, uint32_t word,
                      uint8_t segment[VINO_SEGMENT], vino_word *table, size_t table_length,
                      vino_answer *answer);
+
+/* Puts a sentence for the kind of an answer, or for what vino_load answered, into 64 bytes: at most 63 bytes of ASCII, and zeros behind. */
+void vino_sentence(uint32_t kind, char text[64]);
+void vino_refusal_sentence(uint32_t code, char text[64]);
 
 #ifdef __cplusplus
 }

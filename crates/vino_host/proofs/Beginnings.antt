@@ -33,7 +33,7 @@ pub begins : (plugin : Plugin) (request : Request) (bytes segment new : List ℕ
     x ≡ call_says plugin request bytes segment table
 begins plugin request bytes segment new table call cpu x all frame none prepared first =
     let g : Frame → model.Machine → List Record → Found = λ f m r.
-        found f (host_run f.number (code_of plugin) request.limit (state m table r)) in
+    found f (host_run f.number (code_of plugin) request.limit (state m table r)) in
     let m0 = machine_of cpu new in
     let args = request.r0 ∷ request.r1 ∷ request.r2 ∷ request.r3 ∷ [] in
     all ∙ ap (λ (f : Frame). g f m0 (records_of call.log)) frame

@@ -33,6 +33,7 @@ gives_kept number id k v table records x t r h = by_word (slice_get table k) ref
         let back : undone (records ++ record_of k w ∷ []) (slice_set table k (owned number id v w)) ≡ undone records table =
         undone_behind records (record_of k w) (slice_set table k (owned number id v w))
         ∙ ap (λ (u : List Word). undone records u) (set_back table k w (owned number id v w) e) in cc
+
     by_word : (o : Option Word) → slice_get table k ≡ o →
         elim o [ None ↦ Refuses BAD_ARGUMENT | Some w ↦ serves_word number id k v table records w ] ≡ Gives x t r →
         undone r t ≡ undone records table
@@ -51,6 +52,7 @@ answer_kept number id rest left s h = by_id (nat_le id 1) (nat_le id 15)
     by_serves (Gives x t r) e =
         h (state (with_r0 x s.machine) t r)
         ∙ gives_kept number id (s.machine.regs 0) (s.machine.regs 1) s.table s.records x t r e
+
     by_id : (a b : Bool) →
         first_table (after_answer rest left (elim a [
           | true ↦ after_word id s (serves number id (s.machine.regs 0) (s.machine.regs 1) s.table s.records)

@@ -81,7 +81,14 @@ body_of plugin = take plugin.body_size plugin.body
 abbrev pub plain_answer : (kind detail steps : ℕ) → Answer
 plain_answer kind detail steps =
     record {
-      kind = kind; detail = detail; steps = steps; given = 0; r0 = 0; r1 = 0; r2 = 0; r3 = 0;
+      kind = kind;
+      detail = detail;
+      steps = steps;
+      given = 0;
+      r0 = 0;
+      r1 = 0;
+      r2 = 0;
+      r3 = 0;
     }
 
 -- an answer with r0 to r3
@@ -112,7 +119,7 @@ abbrev pub found_by : Frame → ℕ → State → Stop → Found
 found_by f left s Returns =
     record {
       answer = full_answer RETURNED 0 (f.limit - left) (given_bytes f.point (s.machine.regs 0))
-      s.machine;
+          s.machine;
       segment = s.machine.memory;
       table = released s.records s.table;
       pause = None;
@@ -123,7 +130,11 @@ found_by f left s (Waits id) =
       segment = s.machine.memory;
       table = s.table;
       pause = Some (record {
-        frame = f; id = id; left = left; machine = s.machine; records = s.records;
+        frame = f;
+        id = id;
+        left = left;
+        machine = s.machine;
+        records = s.records;
       });
     }
 found_by f left s (Drops cause detail) =
@@ -210,7 +221,7 @@ abbrev pub resumed : Plugin → Pause → (how x : ℕ) → List Word → Found
 resumed plugin p how x table =
     elim (how == 0) [
       | true ↦ found p.frame
-        (host_run p.frame.number (code_of plugin) p.left
-        (state (with_r0 x p.machine) table p.records))
+          (host_run p.frame.number (code_of plugin) p.left
+          (state (with_r0 x p.machine) table p.records))
       | false ↦ found p.frame (ended (Drops how p.id) p.left (state p.machine table p.records))
     ]

@@ -53,7 +53,7 @@ abbrev pub answered : (number id : ℕ) → State → Answered
 answered number id s =
     elim (nat_le id 1) [
       | true ↦ after_word id s
-        (serves number id (s.machine.regs 0) (s.machine.regs 1) s.table s.records)
+          (serves number id (s.machine.regs 0) (s.machine.regs 1) s.table s.records)
       | false ↦ elim (nat_le id 15) [
         | true ↦ Stops (Waits id) s
         | false ↦ Stops (Drops NOT_CALLABLE id) s

@@ -4,3 +4,4 @@ pub mod Tables
 pub mod HostRuns
 pub mod Calls
 pub mod Loaded
+pub mod Sentences

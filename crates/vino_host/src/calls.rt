@@ -14,8 +14,10 @@ ghost use Rattle.vino_host.specs.Calls as spec;
 
 use crate::running::run;
 use crate::table::{release, undo};
-use crate::{Answer, Call, Instruction, Machine, Plugin, Request, Stop, Stopped, Word};
-use crate::{BAD_ANSWER, MISUSED, MOST_BODY, MOST_BYTES, MOST_CODE, RETURNED, SEGMENT, WAITING};
+use crate::{
+    Answer, BAD_ANSWER, Call, Instruction, MISUSED, MOST_BODY, MOST_BYTES, MOST_CODE, Machine,
+    Plugin, RETURNED, Request, SEGMENT, Stop, Stopped, WAITING, Word,
+};
 
 /// The base of a plug-in's segment, as its code sees it.
 const BASE: u32 = 262_144;
@@ -193,7 +195,15 @@ fn run_on(
     ensures size { length segment.new ≡ length call.old.segment }
 {
     let number = call.number;
-    let stopped = run(machine, segment, code(plugin), table, &mut call.log, number, left);
+    let stopped = run(
+        machine,
+        segment,
+        code(plugin),
+        table,
+        &mut call.log,
+        number,
+        left,
+    );
     settle(call, &stopped, segment, table)
 }
 
@@ -234,22 +244,7 @@ fn first(request: &Request) -> Machine
         (by_place segment) }
 {
     let regs = [
-        request.r0,
-        request.r1,
-        request.r2,
-        request.r3,
-        0,
-        0,
-        0,
-        0,
-        0,
-        0,
-        0,
-        0,
-        0,
-        0,
-        0,
-        BASE,
+        request.r0, request.r1, request.r2, request.r3, 0, 0, 0, 0, 0, 0, 0, 0, 0, 0, 0, BASE,
     ];
     Machine { regs, pc: 0 }
 }

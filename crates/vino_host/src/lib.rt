@@ -9,10 +9,12 @@ mod calls;
 mod loading;
 mod processor;
 mod running;
+mod sentences;
 mod table;
 
 pub use calls::{begin, resume};
 pub use loading::{LOADED, NO_MEMORY, load};
+pub use sentences::{put_refusal_sentence, put_sentence, refusal_sentence, sentence};
 
 /// The bytes of a segment.
 pub const SEGMENT: usize = 4096;
@@ -212,9 +214,10 @@ pub(crate) enum Reply {
     Stopped(Stop),
 }
 
-/// Why a run stopped.
+/// Why a run stopped: it returned, it waits for an answer to an id of the host, or it is dropped for
+/// a cause, with a detail.
 #[derive(Clone, Copy)]
-pub(crate) enum Stop {
+pub enum Stop {
     Returns,
     Waits(u32),
     Drops(u32, u32),

@@ -7,8 +7,10 @@ ghost use Rattle.vino_host.specs.HostRuns.{state, ended, host_run, answered, rep
 ghost use Rattle.vino_host.specs.Tables.{records_of};
 
 use crate::table::serve;
-use crate::{BROKEN, DIVIDED, NOT_CALLABLE, NO_STEPS, TRAPPED};
-use crate::{Instruction, Log, Machine, Outcome, Reply, Served, Stop, Stopped, Word};
+use crate::{
+    BROKEN, DIVIDED, Instruction, Log, Machine, NO_STEPS, NOT_CALLABLE, Outcome, Reply, Served,
+    Stop, Stopped, TRAPPED, Word,
+};
 
 /// Answers what a plug-in called with these values in r0 and r1, or says why it stops.
 fn answer(table: &mut [Word], log: &mut Log, number: u32, id: u32, r0: u32, r1: u32) -> Reply

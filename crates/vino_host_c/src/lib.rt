@@ -2,12 +2,13 @@
 #![tactic(auto)]
 
 ghost use Rattle.std.specs.Prelude.{◌≡◌, ◌≢◌, ◌≤◌, true, false, Ok};
-ghost use Rattle.graft_code.specs.Images as image;
+ghost use Rattle.graft_code.specs.Images as model;
 ghost use Rattle.vino_host.specs.Codes.{is_drop};
 ghost use Rattle.vino_host.specs.Tables.{records_of, undone};
 ghost use Rattle.vino_host.specs.Calls.{found_in, call_says, resumed, pause_in, is_call, is_resumable};
-ghost use Rattle.vino_host.specs.Calls.{MISUSED_ANSWER};
+ghost use Rattle.vino_host.specs.Calls.{MISUSED_ANSWER, filled};
 ghost use Rattle.vino_host.specs.Loaded.{image_of, keys_of, verdict_of};
+ghost use Rattle.vino_host.specs.Sentences.{sentence, refusal_sentence};
 
 use std::alloc::Global;
 use vino_host::{Answer, Call, KeyPair, Plugin, Request, Word};
@@ -23,9 +24,9 @@ pub extern "C" fn vino_load(
     plugin: &mut Plugin,
     place: &mut u32,
 ) -> u32
-    ensures loaded { result ≡ 0 → image.load (keys_of keys.now) image.now ≡ Ok (image_of plugin.new) }
+    ensures loaded { result ≡ 0 → model.load (keys_of keys.now) image.now ≡ Ok (image_of plugin.new) }
     ensures says { result ≢ 14 →
-        verdict_of (image.load (keys_of keys.now) image.now) ≡ (result, place.new) }
+        verdict_of (model.load (keys_of keys.now) image.now) ≡ (result, place.new) }
     ensures kept { result ≢ 0 → plugin.new ≡ plugin.old }
 {
     vino_host::load(alloc, keys, image, plugin, place)
@@ -91,4 +92,20 @@ pub extern "C" fn vino_resume(
 {
     *answer = vino_host::resume(plugin, call, how, word, segment, table);
     answer.kind
+}
+
+/// Puts what the kind of an answer says in words into 64 bytes, with zeros behind.
+#[unsafe(no_mangle)]
+pub extern "C" fn vino_sentence(kind: u32, text: &mut [u8; 64])
+    ensures { text.new ≡ filled 64 (sentence kind) }
+{
+    vino_host::put_sentence(kind, text);
+}
+
+/// Puts what `vino_load` answered in words into 64 bytes, with zeros behind.
+#[unsafe(no_mangle)]
+pub extern "C" fn vino_refusal_sentence(code: u32, text: &mut [u8; 64])
+    ensures { text.new ≡ filled 64 (refusal_sentence code) }
+{
+    vino_host::put_refusal_sentence(code, text);
 }

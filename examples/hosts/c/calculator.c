@@ -25,8 +25,11 @@ int main(int count, char **words) {
         }
         if (answer.kind == VINO_RETURNED)
             printf("%s %u (%u instructions)\n", name, answer.r0, answer.steps);
-        else
-            printf("%s dropped: kind %u detail %u (%u instructions)\n", name, answer.kind, answer.detail, answer.steps);
+        else {
+            char text[64];
+            vino_sentence(answer.kind, text);
+            printf("%s dropped: %s (%u instructions)\n", name, text, answer.steps);
+        }
     }
     return 0;
 }

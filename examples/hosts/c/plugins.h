@@ -24,7 +24,11 @@ static int load_plugin(const char *folder, const char *name, vino_plugin *plugin
     while (length < sizeof image && fscanf(file, "%2x", &byte) == 1) image[length++] = (uint8_t)byte;
     fclose(file);
     refusal = vino_load(&keys, image, length, plugin, &place);
-    if (refusal) fprintf(stderr, "%s: refused with L%u %u\n", name, (unsigned)refusal, (unsigned)place);
+    if (refusal) {
+        char text[64];
+        vino_refusal_sentence(refusal, text);
+        fprintf(stderr, "%s: refused with L%u at instruction %u: %s\n", name, (unsigned)refusal, (unsigned)place, text);
+    }
     return refusal == VINO_LOADED;
 }
 

@@ -13,10 +13,11 @@ records-init c =
 pub records-preserved : goal.records-preserved
 records-preserved c =
     let all = c.records.invariant in
-    let some = c.records-test.true in
-    (omega (arith, all.0),
-    ap (λ (t : List Word). undone (take (c.records.n - 1) c.args.log.now.records) t) c.put_back.ensures
-    ∙ sym (undone_by_place c.args.log.now.records c.records.n _ c.records.table some all.0) ∙ all.1)
+    let some = c.records-test.true in (
+      omega (arith, all.0),
+      ap (λ (t : List Word). undone (take (c.records.n - 1) c.args.log.now.records) t) c.put_back.ensures
+          ∙ sym (undone_by_place c.args.log.now.records c.records.n _ c.records.table some all.0) ∙ all.1,
+    )
 
 pub returns : goal.returns
 returns c =

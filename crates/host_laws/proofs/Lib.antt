@@ -1,0 +1,4 @@
+pub mod Masked
+pub mod Answering
+pub mod RawRuns
+pub mod Others

@@ -1,0 +1,2 @@
+pub mod RawAnswers
+pub mod Claims
