@@ -1,7 +1,6 @@
 -- How a call begins and goes on, and what follows for a caller.
-use Rattle.std.proofs.Common.{◌≡◌, ℕ, ◌≤◌, ◌<◌, Bool, true, false, List, [], ◌∷◌, length, get_or, refl, sym, ap, subst, ◌∙◌}
+use Rattle.std.proofs.Common.{◌≡◌, ℕ, true, List, [], ◌∷◌, length, sym, ap, subst, ◌∙◌}
 use Rattle.std.proofs.Common.{eq-eqb}
-use Rattle.std.specs.Prelude.{◌==◌}
 use Rattle.std.proofs.lemmas.Grind.{same_number_lists}
 use Rattle.graft_code.specs.Machine as model
 use Rattle.graft_code.specs.Machine.{first_machine, segment_base}
@@ -17,10 +16,10 @@ use Rattle.vino_host.specs.Codes.{is_drop}
 use Rattle.vino_host.specs.HostMachine.{by_place, machine_of}
 use Rattle.vino_host.specs.HostRuns.{State, state, Ended, host_run, with_r0}
 use Rattle.vino_host.specs.Tables.{records_of, undone}
-use Rattle.vino_host.specs.Calls.{Frame, Pause, Found, found, found_in, frame_of, pause_in, code_of}
+use Rattle.vino_host.specs.Calls.{Frame, Pause, Found, found, found_in, frame_of, code_of}
 use Rattle.vino_host.specs.Calls.{first_segment, first_frame, call_says, resumed}
 use Rattle.vino_host.proofs.Kept.{run_kept}
-use Rattle.vino_host.proofs.Stopping.{dropped, waiting, steps_most}
+use Rattle.vino_host.proofs.Stopping.{dropped, waiting}
 
 -- a call that begins
 pub begins : (plugin : Plugin) (request : Request) (bytes segment new : List ℕ) (table : List Word) (call : Call) (cpu : Machine) (x : Found) →

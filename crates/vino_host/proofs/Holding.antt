@@ -1,10 +1,8 @@
 -- Instructions of an image as a plug-in's struct holds them.
-use Rattle.std.proofs.Common.{◌≡◌, ℕ, suc, ◌+◌, ◌<◌, ◌%◌, Bool, true, false, List, [], ◌∷◌, ◌++◌, length, take}
-use Rattle.std.proofs.Common.{map, refl, sym, ap, ◌∙◌, arith, Some}
-use Rattle.std.specs.Prelude.{◌&&◌, slice_get, slice_set}
+use Rattle.std.proofs.Common.{◌≡◌, ℕ, ◌<◌, ◌%◌, Bool, true, false}
+use Rattle.std.proofs.Common.{refl, ap, ◌∙◌, arith}
+use Rattle.std.specs.Prelude.{◌&&◌}
 use Rattle.std.proofs.lemmas.Bool.{and_parts, eqb-true, ltb-true}
-use Rattle.std.proofs.lemmas.List.{map-append, take_more, take_more_set}
-use Rattle.std.proofs.lemmas.Option.{get_or_from_slice_get}
 use Rattle.graft_code.specs.declared.Instr.{Instr}
 use Rattle.graft_code.specs.declared.Op.{Op}
 use Rattle.graft_code.specs.declared.Op.TheVariants.{Li, Mov, Add, Sub, Mul, And, Or, Xor, Shl}
@@ -13,7 +11,6 @@ use Rattle.graft_code.specs.declared.Op.TheVariants.{Ldb, Stb, Jmp, Jz, Jnz, Cal
 use Rattle.graft_code.specs.declared.Op.TheVariants.{Ret}
 use Rattle.graft_code.specs.Boxed.{instr}
 use Rattle.graft_code.specs.Instructions.{row_of, fits, is_register_field, is_imm_field}
-use Rattle.vino_host.specs.declared.Instruction.{Instruction}
 use Rattle.vino_host.specs.HostMachine.{operation, instr_of}
 
 -- the number of an operation stands for it

@@ -1,8 +1,8 @@
 -- What a run's records say is put back is at each moment the table with which it began.
 use Rattle.std.proofs.Common.{◌≡◌, ℕ, zero, suc, Bool, true, false, cond, List, [], ◌∷◌, ◌++◌, length, refl}
-use Rattle.std.proofs.Common.{sym, ap, ◌∙◌, Option, Some, None}
+use Rattle.std.proofs.Common.{ap, ◌∙◌, Option, Some, None}
 use Rattle.std.specs.Prelude.{◌==◌, ◌&&◌, not, nat_le, slice_get, slice_set}
-use Rattle.graft_code.specs.Machine.{Machine, Done}
+use Rattle.graft_code.specs.Machine.{Done}
 use Rattle.vino_host.specs.declared.Instruction.{Instruction}
 use Rattle.vino_host.specs.declared.Record.{Record}
 use Rattle.vino_host.specs.declared.Word.{Word}

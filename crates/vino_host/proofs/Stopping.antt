@@ -1,18 +1,17 @@
 -- What a caller finds, by how its call stopped.
-use Rattle.std.proofs.Common.{◌≡◌, ℕ, ◌-◌, ◌≤◌, Bool, true, false, cond, List, length, Option, Some, None, refl}
+use Rattle.std.proofs.Common.{◌≡◌, ℕ, ◌-◌, ◌≤◌, Bool, true, false, cond, List, Some, None}
 use Rattle.std.proofs.Common.{sym, ap, ◌∙◌, arith}
 use Rattle.std.specs.Prelude.{◌==◌}
 use Rattle.vino_host.specs.declared.Answer.{Answer}
 use Rattle.vino_host.specs.declared.Call.{Call}
-use Rattle.vino_host.specs.declared.Record.{Record}
 use Rattle.vino_host.specs.declared.Stop.{Stop}
 use Rattle.vino_host.specs.declared.Stop.TheVariants as stop
 use Rattle.vino_host.specs.declared.Word.{Word}
-use Rattle.vino_host.specs.Codes.{RETURNED, WAITING, is_drop}
+use Rattle.vino_host.specs.Codes.{is_drop}
 use Rattle.vino_host.specs.HostMachine.{by_place}
 use Rattle.vino_host.specs.HostRuns.{State, Ended}
 use Rattle.vino_host.specs.Tables.{records_of, undone}
-use Rattle.vino_host.specs.Calls.{Frame, Pause, Found, found_by, found, found_in, pause_in, pause_of, judged}
+use Rattle.vino_host.specs.Calls.{Frame, Pause, Found, found_by, found, found_in, pause_in, judged}
 
 -- a dropped call
 pub record IsDropped (f : Frame) (s : State) (segment : List ℕ) (table : List Word) : Type 0 where

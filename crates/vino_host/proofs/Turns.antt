@@ -1,8 +1,7 @@
 -- Turns of the run of a plug-in.
-use Rattle.std.proofs.Common.{◌≡◌, ℕ, zero, suc, ◌-◌, ◌<◌, List, refl, sym, ap, subst, ◌∙◌, arith}
+use Rattle.std.proofs.Common.{◌≡◌, ℕ, zero, suc, ◌-◌, ◌<◌, List, sym, ap, subst, ◌∙◌, arith}
 use Rattle.graft_code.specs.Machine.{Machine, Done}
 use Rattle.vino_host.specs.declared.Instruction.{Instruction}
-use Rattle.vino_host.specs.declared.Stop.{Stop}
 use Rattle.vino_host.specs.declared.Stop.TheVariants as stop
 use Rattle.vino_host.specs.Codes.{NO_STEPS}
 use Rattle.vino_host.specs.HostMachine.{host_step}

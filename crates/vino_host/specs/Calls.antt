@@ -1,5 +1,5 @@
 -- Calls of a plug-in: how one begins, what it leaves when it stops, and how it goes on.
-use Rattle.std.specs.Prelude.{ℕ, ◌+◌, ◌-◌, ◌==◌, Bool, true, false, cond, not, ◌&&◌, ◌||◌, nat_le, nat_lt}
+use Rattle.std.specs.Prelude.{ℕ, ◌+◌, ◌-◌, ◌==◌, Bool, true, false, cond, not, ◌&&◌, ◌||◌, nat_le}
 use Rattle.std.specs.Prelude.{List, [], ◌∷◌, ◌++◌, length, take, drop, replicate, Option, Some, None}
 use Rattle.graft_code.specs.Machine.{Machine, first_machine, segment_base, FED_AT}
 use Rattle.vino_host.specs.declared.Answer.{Answer}

@@ -1,8 +1,8 @@
 -- The machine of a plug-in: registers and a place, over a segment of 4,096 bytes. Its code is what
 -- stands in the caller's struct, whatever that is: a number that is no operation's traps, and
 -- registers count modulo 16.
-use Rattle.std.specs.Prelude.{ℕ, ◌+◌, ◌/◌, ◌*◌, ◌%◌, ◌==◌, Bool, true, false, cond, List, slice_index}
-use Rattle.std.specs.Prelude.{slice_get, Option, Some, None, map}
+use Rattle.std.specs.Prelude.{ℕ, ◌%◌, ◌==◌, Bool, true, false, cond, List, slice_index}
+use Rattle.std.specs.Prelude.{slice_get, Some, None}
 use Rattle.graft_code.specs.declared.Instr.{Instr}
 use Rattle.graft_code.specs.declared.Op.{Op}
 use Rattle.graft_code.specs.declared.Op.TheVariants.{Li, Mov, Add, Sub, Mul, And, Or, Xor, Shl}

@@ -1,6 +1,6 @@
 -- A run of a plug-in: instruction by instruction up to a limit. Ids 0 and 1 read and change the
 -- table of words; at ids 2 to 15 the run waits for an answer of the host.
-use Rattle.std.specs.Prelude.{ℕ, zero, suc, ◌==◌, Bool, true, false, cond, nat_le, List}
+use Rattle.std.specs.Prelude.{ℕ, zero, suc, true, false, nat_le, List}
 use Rattle.graft_code.specs.Objects.{at}
 use Rattle.graft_code.specs.Machine.{Machine, Done, Went, Called, Returned, DividedByZero, Trapped, Outside, PastEnd}
 use Rattle.vino_host.specs.declared.Instruction.{Instruction}

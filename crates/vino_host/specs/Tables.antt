@@ -1,7 +1,7 @@
 -- The table of words, the records of what a call changed in it, and what two calls of a plug-in do
 -- with it.
 use Rattle.std.specs.Prelude.{ℕ, ◌==◌, Bool, true, false, cond, not, ◌&&◌, ◌||◌, nat_le, List, [], ◌∷◌}
-use Rattle.std.specs.Prelude.{◌++◌, length, take, slice_get, slice_set, Option, Some, None}
+use Rattle.std.specs.Prelude.{◌++◌, length, take, slice_get, slice_set, Some, None}
 use Rattle.vino_host.specs.declared.Word.{Word}
 use Rattle.vino_host.specs.declared.Record.{Record}
 use Rattle.vino_host.specs.declared.Log.{Log}

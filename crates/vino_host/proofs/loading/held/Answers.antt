@@ -1,4 +1,4 @@
-use Rattle.std.proofs.Common.{◌≡◌, ℕ, ◌∙◌, ap, IsTrue}
+use Rattle.std.proofs.Common.{ℕ, ◌∙◌, ap}
 use Rattle.vino_host.specs.HostMachine.{instr_of}
 use Rattle.vino_host.proofs.Holding.{held_instr}
 use Rattle.vino_host.proofs.loading.held.Goals as goal

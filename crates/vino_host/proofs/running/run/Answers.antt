@@ -1,10 +1,9 @@
-use Rattle.std.proofs.Common.{◌≡◌, ◌-◌, ◌<◌, false, List, ℕ, sym, ap, ◌∙◌, arith}
+use Rattle.std.proofs.Common.{◌≡◌, ◌-◌, false, List, ℕ, sym, ap, ◌∙◌, arith}
 use Rattle.graft_code.specs.Machine as model
 use Rattle.graft_code.specs.Machine.{Done}
 use Rattle.vino_host.specs.declared.Machine.{Machine}
 use Rattle.vino_host.specs.declared.Outcome.{Outcome}
 use Rattle.vino_host.specs.declared.Reply.{Reply}
-use Rattle.vino_host.specs.declared.Stop.{Stop}
 use Rattle.vino_host.specs.declared.Stop.TheVariants as stop
 use Rattle.vino_host.specs.declared.Stopped.{Stopped}
 use Rattle.vino_host.specs.Codes.{DIVIDED, TRAPPED, BROKEN}

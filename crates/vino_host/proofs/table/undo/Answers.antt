@@ -1,5 +1,4 @@
-use Rattle.std.proofs.Common.{◌≡◌, ℕ, suc, ◌+◌, ◌-◌, ◌<◌, List, length, take, get_or, sym, ap, subst, ◌∙◌, arith, refl}
-use Rattle.std.proofs.lemmas.Option.{slice_get-get_or}
+use Rattle.std.proofs.Common.{◌≡◌, ℕ, ◌-◌, List, take, sym, ap, subst, ◌∙◌, arith}
 use Rattle.vino_host.specs.declared.Record.{Record}
 use Rattle.vino_host.specs.declared.Word.{Word}
 use Rattle.vino_host.specs.Tables.{records_of, undone}
