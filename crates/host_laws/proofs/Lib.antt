@@ -1,4 +1,0 @@
-pub mod Masked
-pub mod Answering
-pub mod RawRuns
-pub mod Others

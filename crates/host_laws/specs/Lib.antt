@@ -1,2 +1,0 @@
-pub mod RawAnswers
-pub mod Claims
