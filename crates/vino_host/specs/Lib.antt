@@ -1,0 +1,7 @@
+pub mod Codes
+pub mod HostMachine
+pub mod Tables
+pub mod HostRuns
+pub mod Calls
+pub mod Loaded
+pub mod Sentences

@@ -1,0 +1,141 @@
+//! The table of words: what plug-ins read and change of it, with a record for each change.
+
+ghost use Rattle.std.specs.Prelude.{◌≡◌, ◌<◌, ◌≤◌, ◌++◌, ◌∷◌, [], length, take, true, Some, slice_get};
+ghost use Rattle.vino_host.specs.Tables.{records_of, serves, serves_word, served, is_refused, record_of};
+ghost use Rattle.vino_host.specs.Tables.{undone, released};
+ghost use Rattle.vino_host.specs.Tables as spec;
+
+use crate::{BAD_ARGUMENT, BUSY, Log, MOST_RECORDS, NO_RECORDS, Record, Served, Word};
+
+impl Log {
+    /// How many records there are.
+    fn size(&self) -> usize
+        ensures size { result ≡ length (records_of self.now) }
+        ensures records { take result self.now.records ≡ records_of self.now }
+        ensures most { result ≤ length self.now.records }
+    {
+        (self.count as usize).min(MOST_RECORDS)
+    }
+
+    /// A record comes behind the others, for which there is room.
+    fn push(&mut self, entry: Record)
+        requires { length (records_of self.old) < 64 }
+        ensures { records_of self.new ≡ records_of self.old ++ entry ∷ [] }
+    {
+        self.records[self.count as usize] = entry;
+        self.count += 1;
+    }
+}
+
+/// The word at a place, if there is one.
+fn word_at(table: &[Word], k: u32) -> Option<Word>
+    ensures { result ≡ slice_get table.now k }
+{
+    table.get(k as usize).copied()
+}
+
+/// A word that a call read, or changed to v.
+fn owned(number: u32, id: u32, v: u32, w: Word) -> Word
+    ensures { result ≡ spec.owned number id v w }
+{
+    Word {
+        value: if id == 1 { v } else { w.value },
+        owner: number,
+    }
+}
+
+/// The word w at place k is read or changed.
+fn serve_word(
+    table: &mut [Word],
+    log: &mut Log,
+    number: u32,
+    id: u32,
+    k: u32,
+    v: u32,
+    w: Word,
+) -> Served
+    requires { slice_get table.old k ≡ Some w }
+    ensures exact { serves_word number id k v table.old (records_of log.old) w
+        ≡ served result table.new (records_of log.new) }
+    ensures table { is_refused result ≡ true → table.new ≡ table.old }
+    ensures records { is_refused result ≡ true → records_of log.new ≡ records_of log.old }
+{
+    if w.owner != 0 && w.owner != number {
+        return Served::Refused(BUSY);
+    }
+    if id == 0 && w.owner == number {
+        return Served::Gave(w.value);
+    }
+    if log.size() >= MOST_RECORDS {
+        return Served::Refused(NO_RECORDS);
+    }
+    log.push(Record {
+        place: k,
+        before: w,
+    });
+    table[k as usize] = owned(number, id, v, w);
+    Served::Gave(w.value)
+}
+
+/// The word at place k is read (id 0), or changed to v (id 1), by the call of this number.
+pub(crate) fn serve(
+    table: &mut [Word],
+    log: &mut Log,
+    number: u32,
+    id: u32,
+    k: u32,
+    v: u32,
+) -> Served
+    ensures exact { serves number id k v table.old (records_of log.old)
+        ≡ served result table.new (records_of log.new) }
+    ensures table { is_refused result ≡ true → table.new ≡ table.old }
+    ensures records { is_refused result ≡ true → records_of log.new ≡ records_of log.old }
+{
+    match word_at(table, k) {
+        None => Served::Refused(BAD_ARGUMENT),
+        Some(w) => serve_word(table, log, number, id, k, v, w),
+    }
+}
+
+/// A word as a record has it is put back, if the table has its place.
+fn put_back(table: &mut [Word], r: &Record)
+    ensures { table.new ≡ spec.put_back r.now table.old }
+{
+    if (r.place as usize) < table.len() {
+        table[r.place as usize] = r.before;
+    }
+}
+
+/// What the records say is put back, the newest first.
+pub(crate) fn undo(table: &mut [Word], log: &Log)
+    ensures { table.new ≡ undone (records_of log.now) table.old }
+{
+    let mut n = log.size();
+    'records: while n > 0 {
+        n -= 1;
+        put_back(table, &log.records[n]);
+    }
+}
+
+/// The word of a record gets its owner from before, if the table has its place.
+fn release_at(table: &mut [Word], r: &Record)
+    ensures { table.new ≡ spec.released_at r.now table.old }
+{
+    if let Some(w) = word_at(table, r.place) {
+        table[r.place as usize] = Word {
+            value: w.value,
+            owner: r.before.owner,
+        };
+    }
+}
+
+/// The words of the records get their owners from before, the newest record first.
+pub(crate) fn release(table: &mut [Word], log: &Log)
+    ensures { table.new ≡ released (records_of log.now) table.old }
+{
+    let mut n = log.size();
+    'records: while n > 0 {
+        n -= 1;
+        release_at(table, &log.records[n]);
+    }
+}

@@ -1,0 +1,111 @@
+//! The library for hosts in C (hosting/vino_host.h): one export for each function of `vino_host`.
+#![tactic(auto)]
+
+ghost use Rattle.std.specs.Prelude.{◌≡◌, ◌≢◌, ◌≤◌, true, false, Ok};
+ghost use Rattle.graft_code.specs.Images as model;
+ghost use Rattle.vino_host.specs.Codes.{is_drop};
+ghost use Rattle.vino_host.specs.Tables.{records_of, undone};
+ghost use Rattle.vino_host.specs.Calls.{found_in, call_says, resumed, pause_in, is_call, is_resumable};
+ghost use Rattle.vino_host.specs.Calls.{MISUSED_ANSWER, filled};
+ghost use Rattle.vino_host.specs.Loaded.{image_of, keys_of, verdict_of};
+ghost use Rattle.vino_host.specs.Sentences.{sentence, refusal_sentence};
+
+use std::alloc::Global;
+use vino_host::{Answer, Call, KeyPair, Plugin, Request, Word};
+
+/// Loads a sealed image under one or two keys: 0, or the number of its refusal L1 to L13 with the
+/// place of the instruction, or 14 where there is no memory. Where it isn't 0, the plug-in's struct
+/// stays as it was.
+#[unsafe(no_mangle)]
+pub extern "C" fn vino_load(
+    alloc: Global,
+    keys: &KeyPair,
+    image: &[u8],
+    plugin: &mut Plugin,
+    place: &mut u32,
+) -> u32
+    ensures loaded { result ≡ 0 → model.load (keys_of keys.now) image.now ≡ Ok (image_of plugin.new) }
+    ensures says { result ≢ 14 →
+        verdict_of (model.load (keys_of keys.now) image.now) ≡ (result, place.new) }
+    ensures kept { result ≢ 0 → plugin.new ≡ plugin.old }
+{
+    vino_host::load(alloc, keys, image, plugin, place)
+}
+
+/// Calls a plug-in, as `vino_host::begin` does; the kind of its answer is returned too.
+#[unsafe(no_mangle)]
+pub extern "C" fn vino_begin(
+    plugin: &Plugin,
+    call: &mut Call,
+    request: &Request,
+    bytes: &[u8],
+    segment: &mut [u8; 4096],
+    table: &mut [Word],
+    answer: &mut Answer,
+) -> u32
+    ensures says { is_call request.now bytes.now ≡ true →
+        found_in answer.new call.new segment.new table.new
+        ≡ call_says plugin.now request.now bytes.now segment.old table.old }
+    ensures misused { is_call request.now bytes.now ≡ false →
+        found_in answer.new call.new segment.new table.new
+        ≡ found_in MISUSED_ANSWER call.old segment.old table.old }
+    ensures call { is_call request.now bytes.now ≡ false → call.new ≡ call.old }
+    ensures segment { is_drop answer.new.kind ≡ true → segment.new ≡ segment.old }
+    ensures table { is_drop answer.new.kind ≡ true → table.new ≡ table.old }
+    ensures kept_segment { is_call request.now bytes.now ≡ true → call.new.state ≡ 1 →
+        call.new.segment ≡ segment.old }
+    ensures kept_table { is_call request.now bytes.now ≡ true → call.new.state ≡ 1 →
+        undone (records_of call.new.log) table.new ≡ table.old }
+    ensures limit { answer.new.steps ≤ request.now.limit }
+    ensures kind { result ≡ answer.new.kind }
+{
+    *answer = vino_host::begin(plugin, call, request, bytes, segment, table);
+    answer.kind
+}
+
+/// Answers a call that waits, as `vino_host::resume` does; the kind of its answer is returned too.
+#[unsafe(no_mangle)]
+pub extern "C" fn vino_resume(
+    plugin: &Plugin,
+    call: &mut Call,
+    how: u32,
+    word: u32,
+    segment: &mut [u8; 4096],
+    table: &mut [Word],
+    answer: &mut Answer,
+) -> u32
+    ensures says { is_resumable call.old how ≡ true →
+        found_in answer.new call.new segment.new table.new
+        ≡ resumed plugin.now (pause_in call.old segment.old) how word table.old }
+    ensures misused { is_resumable call.old how ≡ false →
+        found_in answer.new call.new segment.new table.new
+        ≡ found_in MISUSED_ANSWER call.old segment.old table.old }
+    ensures call { is_resumable call.old how ≡ false → call.new ≡ call.old }
+    ensures segment { is_drop answer.new.kind ≡ true → segment.new ≡ call.old.segment }
+    ensures table { is_drop answer.new.kind ≡ true →
+        table.new ≡ undone (records_of call.old.log) table.old }
+    ensures kept_segment { call.new.state ≡ 1 → call.new.segment ≡ call.old.segment }
+    ensures kept_table { call.new.state ≡ 1 → undone (records_of call.new.log) table.new
+        ≡ undone (records_of call.old.log) table.old }
+    ensures limit { answer.new.steps ≤ call.old.limit }
+    ensures kind { result ≡ answer.new.kind }
+{
+    *answer = vino_host::resume(plugin, call, how, word, segment, table);
+    answer.kind
+}
+
+/// Puts what the kind of an answer says in words into 64 bytes, with zeros behind.
+#[unsafe(no_mangle)]
+pub extern "C" fn vino_sentence(kind: u32, text: &mut [u8; 64])
+    ensures { text.new ≡ filled 64 (sentence kind) }
+{
+    vino_host::put_sentence(kind, text);
+}
+
+/// Puts what `vino_load` answered in words into 64 bytes, with zeros behind.
+#[unsafe(no_mangle)]
+pub extern "C" fn vino_refusal_sentence(code: u32, text: &mut [u8; 64])
+    ensures { text.new ≡ filled 64 (refusal_sentence code) }
+{
+    vino_host::put_refusal_sentence(code, text);
+}

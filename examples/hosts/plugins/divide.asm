@@ -1,0 +1,2 @@
+divu r0 r0 r1
+ret

@@ -1,0 +1,2 @@
+mul r0 r0 r1
+ret

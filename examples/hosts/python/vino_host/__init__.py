@@ -1,0 +1,153 @@
+"""The proved sandbox for plug-ins, from Python by `ctypes`.
+
+`Library(path)` opens the shared library, `Library.load(image, key)` loads a sealed image, and `Plugin.call` calls it. What is promised is
+in `vino_host.h`: a call that misbehaves is dropped, and segment and table are as they were.
+"""
+
+from __future__ import annotations
+
+import ctypes
+from ctypes import POINTER, c_size_t, c_uint8, c_uint32
+from typing import Callable, NamedTuple, Optional, Sequence
+
+SEGMENT = 4096
+BYTES_AT = 2048
+RETURNED, NOT_CALLABLE, WAITING, NO_MEMORY = 0, 3, 32, 14
+
+
+class _Instruction(ctypes.Structure):
+    _fields_ = [("op", c_uint8), ("a", c_uint8), ("b", c_uint8), ("c", c_uint8), ("imm", c_uint32)]
+
+
+class _Plugin(ctypes.Structure):
+    _fields_ = [("size", c_uint32), ("body_size", c_uint32), ("keep", c_uint32), ("code", _Instruction * 1024), ("body", c_uint8 * 4096)]
+
+
+class _Keys(ctypes.Structure):
+    _fields_ = [("count", c_uint32), ("first", c_uint8 * 32), ("second", c_uint8 * 32)]
+
+
+class _Word(ctypes.Structure):
+    _fields_ = [("value", c_uint32), ("owner", c_uint32)]
+
+
+class _Record(ctypes.Structure):
+    _fields_ = [("place", c_uint32), ("before", _Word)]
+
+
+class _Call(ctypes.Structure):
+    _fields_ = [
+        *((name, c_uint32) for name in ("state", "number", "point", "fed", "limit", "left", "id")),
+        ("regs", c_uint32 * 16),
+        ("pc", c_uint32),
+        ("count", c_uint32),
+        ("records", _Record * 64),
+        ("segment", c_uint8 * SEGMENT),
+    ]
+
+
+class _Request(ctypes.Structure):
+    _fields_ = [(name, c_uint32) for name in ("number", "point", "limit", "fresh", "r0", "r1", "r2", "r3")]
+
+
+class _Answer(ctypes.Structure):
+    _fields_ = [(name, c_uint32) for name in ("kind", "detail", "steps", "given", "r0", "r1", "r2", "r3")]
+
+
+class Refused(Exception):
+    """An image was refused: `code` is the number of its L code, `place` that of the instruction."""
+
+    def __init__(self, code: int, place: int) -> None:
+        super().__init__(f"L{code} {place}")
+        self.code = code
+        self.place = place
+
+
+class Answer(NamedTuple):
+    """How a call ended: 0 it returned; else the cause for which it was dropped."""
+
+    kind: int
+    detail: int
+    steps: int
+    registers: tuple[int, int, int, int]
+    given: bytes
+
+
+class Table:
+    """Words that plug-ins read by id 0 and change by id 1."""
+
+    def __init__(self, values: Sequence[int]) -> None:
+        """Makes a table of these words, each 0 to 2**32 - 1."""
+        self._words = (_Word * len(values))(*(_Word(value, 0) for value in values))
+
+    def values(self) -> list[int]:
+        """The words."""
+        return [word.value for word in self._words]
+
+
+class Plugin:
+    """A loaded plug-in with a segment of its own."""
+
+    def __init__(self, library: ctypes.CDLL, struct: _Plugin) -> None:
+        """Made by `Library.load`."""
+        self._library = library
+        self._struct = struct
+        self._call = _Call()
+        self._segment = (c_uint8 * SEGMENT)()
+        self._called = False
+
+    def call(
+        self,
+        table: Table,
+        arguments: Sequence[int] = (0, 0, 0, 0),
+        fed: bytes = b"",
+        limit: int = 10000,
+        point: int = 0,
+        host: Optional[Callable[[int, tuple[int, int, int, int]], Optional[int]]] = None,
+    ) -> Answer:
+        """Calls the plug-in. `host` answers ids 2 to 15 with a word, or with None, which refuses."""
+        fresh = 0 if self._struct.keep == 1 and self._called else 1
+        request = _Request(1, point, limit, fresh, *arguments)
+        answer = _Answer()
+        words = table._words
+        data = (c_uint8 * max(1, len(fed)))(*fed)
+        self._library.vino_begin(self._struct, self._call, request, data, len(fed), self._segment, words, len(words), answer)
+        while answer.kind == WAITING:
+            word = host(answer.detail, (answer.r0, answer.r1, answer.r2, answer.r3)) if host else None
+            how = NOT_CALLABLE if word is None else 0
+            self._library.vino_resume(self._struct, self._call, how, word or 0, self._segment, words, len(words), answer)
+        given = b""
+        if answer.kind == RETURNED:
+            self._called = True
+            given = bytes(self._segment[BYTES_AT : BYTES_AT + answer.given])
+        return Answer(answer.kind, answer.detail, answer.steps, (answer.r0, answer.r1, answer.r2, answer.r3), given)
+
+
+class Library:
+    """The shared library."""
+
+    def __init__(self, path: str) -> None:
+        """Opens the shared library at a path."""
+        self._library = ctypes.CDLL(path)
+        self._library.vino_load.argtypes = [POINTER(_Keys), POINTER(c_uint8), c_size_t, POINTER(_Plugin), POINTER(c_uint32)]
+        self._library.vino_begin.argtypes = [
+            POINTER(_Plugin), POINTER(_Call), POINTER(_Request), POINTER(c_uint8), c_size_t,
+            POINTER(c_uint8), POINTER(_Word), c_size_t, POINTER(_Answer),
+        ]  # fmt: skip
+        self._library.vino_resume.argtypes = [
+            POINTER(_Plugin), POINTER(_Call), c_uint32, c_uint32, POINTER(c_uint8), POINTER(_Word), c_size_t, POINTER(_Answer),
+        ]  # fmt: skip
+        for function in ("vino_load", "vino_begin", "vino_resume"):
+            getattr(self._library, function).restype = c_uint32
+
+    def load(self, image: bytes, first: bytes, second: Optional[bytes] = None) -> Plugin:
+        """Loads a sealed image under one key of 32 bytes, or two. Raises `Refused`, or `MemoryError`."""
+        keys = _Keys(2 if second else 1, (c_uint8 * 32)(*first), (c_uint8 * 32)(*(second or bytes(32))))
+        data = (c_uint8 * max(1, len(image)))(*image)
+        struct, place = _Plugin(), c_uint32()
+        code = self._library.vino_load(keys, data, len(image), struct, place)
+        if code == NO_MEMORY:
+            raise MemoryError
+        if code:
+            raise Refused(code, place.value)
+        return Plugin(self._library, struct)
