@@ -1,0 +1,5 @@
+pub mod Masked
+pub mod Answering
+pub mod RawRuns
+pub mod Others
+pub mod Aloneness

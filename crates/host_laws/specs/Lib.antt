@@ -1,0 +1,3 @@
+pub mod RawAnswers
+pub mod Claims
+pub mod Alone

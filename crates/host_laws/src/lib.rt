@@ -1,0 +1,34 @@
+//! The laws of hosted plug-ins. A call of one brings its statement into a proof.
+#![tactic(auto)]
+
+ghost use Rattle.host_laws.specs.Alone.{RunsHangOnTheirWords};
+ghost use Rattle.host_laws.specs.Claims.{StepsAreRaw, RunsAreRaw, RunsKeepTheTable, RunsLeaveOthers};
+
+/// An instruction of a plug-in is one of its code with each address masked.
+pub fn steps_are_raw()
+    ensures { StepsAreRaw }
+{}
+
+/// The run of a plug-in is the run of its code with each address masked, to which the table's words
+/// are the answers: after as many instructions it ends in the same way, and where it returns, with
+/// the same registers and the same segment.
+pub fn runs_are_raw()
+    ensures { RunsAreRaw }
+{}
+
+/// Whatever a run does, what its records put back is the table with which it began.
+pub fn runs_keep_the_table()
+    ensures { RunsKeepTheTable }
+{}
+
+/// A run leaves each word of the table that belongs to another call as it is.
+pub fn runs_leave_others()
+    ensures { RunsLeaveOthers }
+{}
+
+/// A run that returns or waits hangs on the words that it touched, and on no others: over any table
+/// that agrees on these it stops in the same way, with the same machine and the same records, and
+/// leaves the same in these words; all else stays as it was there.
+pub fn runs_hang_on_their_words()
+    ensures { RunsHangOnTheirWords }
+{}
