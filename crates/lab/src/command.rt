@@ -3,12 +3,13 @@
 use crate::boxing;
 use crate::edge::{NO_MEMORY, write_out};
 use crate::explain::explain;
-use crate::help::{help, help_of, no_words, wrong_words};
+use crate::help::{help, help_of, no_words, options_of, wrong_option, wrong_words};
 use crate::picture::picture;
-use crate::run::{Telling, run_file};
+use crate::run::{Telling, run_files};
 use crate::script::script;
 use crate::test::test;
 use crate::watch::watch;
+use crate::why::why_event;
 use kernel_data::NoMemory;
 use std::alloc::Global;
 
@@ -20,7 +21,7 @@ struct Given<'a> {
     key: bool,
     disk: Option<&'a str>,
     others: Vec<&'a str>,
-    /// A flag isn't known, or lacks its value.
+    /// `--disk` lacks its value.
     wrong: bool,
 }
 
@@ -32,9 +33,7 @@ fn take<'a>(given: &mut Given<'a>, word: &'a str) -> Result<bool, NoMemory> {
         "--key" => given.key = true,
         "--disk" => return Ok(true),
         _ => {
-            if word.starts_with("--") {
-                given.wrong = true;
-            } else if given.others.push(word).is_err() {
+            if given.others.push(word).is_err() {
                 return Err(NoMemory);
             }
         }
@@ -61,38 +60,77 @@ fn read<'a>(alloc: Global, words: &'a [String]) -> Result<Given<'a>, NoMemory> {
             value = take(&mut given, word.as_str())?;
         }
     }
-    given.wrong = given.wrong || value;
+    given.wrong = value;
     Ok(given)
 }
 
 /// Does what a command asks with these words behind its name: the status.
 fn obey_given(rt: &HostRuntime, name: &str, given: &Given) -> u8 {
-    let runs = given.plain || given.raw_heads || given.disk.is_some();
-    if given.wrong || (runs && name != "run") || (given.key && name != "script") {
+    if given.wrong {
         return wrong_words(rt, name);
     }
     match (name, given.others.as_slice()) {
-        ("run", [path]) => {
+        ("run", [_, ..]) => {
             let telling = Telling {
                 plain: given.plain,
                 raw_heads: given.raw_heads,
             };
-            run_file(rt, path, telling, given.disk)
+            run_files(rt, given.others.as_slice(), telling, given.disk)
         }
         ("test", [_, ..]) => test(rt, given.others.as_slice()),
         ("script", [path]) => script(rt, path, given.key),
         ("box", [path, graft]) => boxing::show(rt, path, graft),
         ("watch", [path]) => watch(rt, path),
+        ("why", [path, event]) => why_event(rt, path, event),
         _ => wrong_words(rt, name),
     }
 }
 
+/// The first word that begins as an option does and is none of the command. What stands behind
+/// an option that takes a value is that value.
+fn unknown_option<'a>(name: &str, words: &'a [String]) -> Option<&'a str> {
+    let mut is_value = false;
+    for word in words {
+        let word = word.as_str();
+        if !is_value && word.len() > 1 && word.starts_with("-") && !is_option(name, word) {
+            return Some(word);
+        }
+        is_value = !is_value && takes_value(word);
+    }
+    None
+}
+
+/// Whether a word is an option of a command.
+fn is_option(name: &str, word: &str) -> bool {
+    options_of(name).iter().any(|option| *option == word)
+}
+
+/// Whether a value stands behind an option.
+fn takes_value(word: &str) -> bool {
+    word == "--disk" || word == "--from" || word == "--to"
+}
+
+/// Whether a word asks for help.
+fn is_help(word: &str) -> bool {
+    word == "--help" || word == "-h"
+}
+
 /// Does what a command asks with these words behind its name: the status.
 fn obey_command(rt: &HostRuntime, name: &str, words: &[String]) -> u8 {
+    if is_help(name) && words.is_empty() {
+        return help(rt);
+    }
+    if let [word] = words {
+        if is_help(word.as_str()) {
+            return help_of(rt, name);
+        }
+    }
+    if let Some(option) = unknown_option(name, words) {
+        return wrong_option(rt, name, option);
+    }
     match (name, words) {
-        ("--help", []) | ("help", []) => help(rt),
+        ("help", []) => help(rt),
         ("--version", []) => write_out(rt, b"lab 0.9.0\n", 0),
-        (_, [word]) if word.as_str() == "--help" => help_of(rt, name),
         ("help", [command]) => help_of(rt, command.as_str()),
         ("explain", _) => explain(rt, words),
         ("picture", _) => picture(rt, words),

@@ -1,6 +1,6 @@
 //! `lab explain`.
 
-use crate::edge::{NO_MEMORY, REFUSED, write_error, write_out};
+use crate::edge::{NO_MEMORY, OUTPUT_FAILED, REFUSED, write_error, write_out};
 use crate::help::wrong_words;
 use kernel_data::NoMemory;
 use lab_words::{Code, Form, code_of, codes_page, explanation, form_of, sentence_of};
@@ -55,11 +55,15 @@ fn explain_text(rt: &HostRuntime, text: &[u8]) -> Result<u8, NoMemory> {
     Ok(write_out(rt, said.as_slice(), 0))
 }
 
-/// Says of each word what it means: the status, which is that of the last word that isn't known.
+/// Says of each word what it means: the status, which is that of the last word that isn't known, or
+/// of the output where it fails; then nothing more is said.
 fn explain_each(rt: &HostRuntime, words: &[String]) -> Result<u8, NoMemory> {
     let mut status = 0;
     for word in words {
         let said = explain_text(rt, word.as_bytes())?;
+        if said == OUTPUT_FAILED {
+            return Ok(said);
+        }
         if said != 0 {
             status = said;
         }

@@ -1,8 +1,13 @@
 //! Lab files, opened.
 
-use crate::edge::{NO_MEMORY, REFUSED, write_error};
+use crate::edge::{NO_MEMORY, REFUSED, TOO_LONG, unreadable, write_error};
 use lab_lowering::{LabFault, Lowered, lower};
-use std::fs;
+use std::fs::File;
+use std::io;
+use std::io::Read;
+
+/// The most bytes that are read: one more than a lab file may have.
+const READ_BYTES: u64 = 16_777_217;
 
 /// A lab file that was read and lowered.
 #[derive(Drop)]
@@ -13,12 +18,23 @@ pub struct Opened {
     pub lowered: Lowered,
 }
 
+/// The bytes of the file of this name, or of the standard input for `-`.
+fn read_bytes(rt: &HostRuntime, path: &str) -> io::Result<Vec<u8>> {
+    let mut bytes = Vec::new(rt.alloc());
+    if path == "-" {
+        let _ = rt.stdin().take(READ_BYTES).read_to_end(&mut bytes)?;
+    } else {
+        let file = File::open(rt, path)?;
+        let _ = file.take(READ_BYTES).read_to_end(&mut bytes)?;
+    }
+    Ok(bytes)
+}
+
 /// Reads a lab file and lowers it; or tells why it is refused, and gives the status.
 pub fn open(rt: &HostRuntime, path: &str) -> Result<Opened, u8> {
-    let Ok(text) = fs::read(rt, path) else {
-        write_error(rt, path.as_bytes());
-        write_error(rt, b": the file can't be read\n");
-        return Err(REFUSED);
+    let text = match read_bytes(rt, path) {
+        Ok(text) => text,
+        Err(fault) => return Err(unreadable(rt, path, &fault)),
     };
     match lower(rt.alloc(), text.as_slice()) {
         Ok(lowered) => Ok(Opened { text, lowered }),
@@ -31,7 +47,10 @@ fn refuse(rt: &HostRuntime, path: &str, text: &[u8], fault: LabFault) -> u8 {
     match lab_faults::tell_fault(rt.alloc(), path.as_bytes(), text, fault) {
         Ok(sentence) => {
             write_error(rt, sentence.as_slice());
-            REFUSED
+            match fault {
+                LabFault::TooLong => TOO_LONG,
+                _ => REFUSED,
+            }
         }
         Err(_) => NO_MEMORY,
     }

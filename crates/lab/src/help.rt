@@ -8,8 +8,9 @@ const HEAD: &[u8] =
 
 ";
 
-const RUN: &[u8] = b"lab run FILE [--plain] [--raw-heads] [--disk PATH]
-    each line with its number, and below it what it wrote, in words
+const RUN: &[u8] = b"lab run FILE.. [--plain] [--raw-heads] [--disk PATH]
+    each line with its number, and below it what it wrote, in words;
+    the FILE - is standard input
     --plain      the written lines alone, as `vino run` writes them
     --raw-heads  a head above each kind of row of `raw`
     --disk PATH  take this file as the disk
@@ -32,6 +33,11 @@ const WATCH: &[u8] = b"lab watch FILE
     in lines that begin with a bar, among the lines that the kernel writes
 ";
 
+const WHY: &[u8] = b"lab why FILE EVENT
+    why what an event wrote came about: the cause of a drop, a refusal or a
+    wait, where the graft stood, and how often
+";
+
 const PICTURE: &[u8] = b"lab picture FILE [--from N] [--to N]
     a timeline of the run as SVG, at most 2,000 events of it
     --from N     from this event on
@@ -49,8 +55,8 @@ const HELP: &[u8] = b"lab help COMMAND , lab COMMAND --help
 /// What stands below the commands.
 const FOOT: &[u8] = b"lab --version
 
-Statuses: 0; 1 a wanted line didn't come; 2 a refused file or command line;
-3 and 7 as of `vino run`; 4 failed output; 5 no memory.
+Statuses: 0; 1 a wanted line didn't come; 2 a refused file, line or command line;
+3 an input that can't be read; 4 failed output; 5 no memory; 7 an input too long.
 docs/LAB.md says what a lab file may say.
 ";
 
@@ -62,6 +68,7 @@ fn said_of(command: &str) -> Option<&'static [u8]> {
         "script" => Some(SCRIPT),
         "box" => Some(BOX),
         "watch" => Some(WATCH),
+        "why" => Some(WHY),
         "picture" => Some(PICTURE),
         "explain" => Some(EXPLAIN),
         "help" => Some(HELP),
@@ -69,11 +76,22 @@ fn said_of(command: &str) -> Option<&'static [u8]> {
     }
 }
 
+/// The options of a command.
+pub fn options_of(command: &str) -> &'static [&'static str] {
+    match command {
+        "run" => ["--plain", "--raw-heads", "--disk"].as_slice(),
+        "script" => ["--key"].as_slice(),
+        "picture" => ["--from", "--to"].as_slice(),
+        "explain" => ["--all"].as_slice(),
+        _ => [].as_slice(),
+    }
+}
+
 /// Writes what is said of all commands: the status.
 pub fn help(rt: &HostRuntime) -> u8 {
     let mut status = 0;
     for part in [
-        HEAD, RUN, TEST, SCRIPT, BOX, WATCH, PICTURE, EXPLAIN, HELP, FOOT,
+        HEAD, RUN, TEST, SCRIPT, BOX, WATCH, WHY, PICTURE, EXPLAIN, HELP, FOOT,
     ] {
         if status == 0 {
             status = write_out(rt, part, 0);
@@ -102,6 +120,19 @@ fn no_command(rt: &HostRuntime, name: &str) -> u8 {
     write_error(rt, name.as_bytes());
     write_error(rt, b"'; `lab --help` lists them\n");
     REFUSED
+}
+
+/// Tells that a command has no such option, and what it takes; or that there is no such command:
+/// the status.
+pub fn wrong_option(rt: &HostRuntime, name: &str, option: &str) -> u8 {
+    match said_of(name) {
+        Some(said) => {
+            let _ = eprintln!(rt; "lab: `lab {name}` has no option '{option}':");
+            write_error(rt, said);
+            REFUSED
+        }
+        None => no_command(rt, name),
+    }
 }
 
 /// Tells what a command takes, since it doesn't take the words that stand behind it; or that there

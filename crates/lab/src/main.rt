@@ -2,6 +2,7 @@
 #![tactic(auto)]
 
 mod boxing;
+mod colour;
 mod command;
 mod edge;
 mod explain;
@@ -13,6 +14,7 @@ mod script;
 mod stock;
 mod test;
 mod watch;
+mod why;
 
 use crate::command::obey;
 use crate::edge::{NO_MEMORY, REFUSED, write_error};
@@ -20,7 +22,7 @@ use std::process::ExitCode;
 use std::{env, io};
 
 fn main(rt: HostRuntime) -> ExitCode {
-    ExitCode::from(match words(&rt) {
+    let status = match words(&rt) {
         Ok(words) => obey(&rt, words.as_slice()),
         // A word that isn't UTF-8 is in no grammar.
         Err(fault) if fault.kind() == io::ErrorKind::InvalidData => {
@@ -28,7 +30,11 @@ fn main(rt: HostRuntime) -> ExitCode {
             REFUSED
         }
         Err(_) => NO_MEMORY,
-    })
+    };
+    if status == NO_MEMORY {
+        write_error(&rt, b"lab: there was no memory\n");
+    }
+    ExitCode::from(status)
 }
 
 /// The words of the command line, the program's own name first.

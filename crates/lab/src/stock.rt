@@ -1,5 +1,6 @@
 //! Runs over the stock policies and the disk that a lab file asks for.
 
+use crate::edge::tell_disk;
 use graft_points::{
     Policy, RaNext, RaNone, RaSeq, SchedNice, SchedRound, VictimLru, VictimMark, is_stock, put_last,
 };
@@ -19,6 +20,7 @@ pub fn run_lab(rt: &HostRuntime, lowered: &Lowered, disk: Option<&str>) -> Resul
     };
     match disk.or(named) {
         Some(path) => {
+            tell_disk(rt, path);
             let mut disk = open_disk(rt, path);
             run_over(rt.alloc(), lowered, &mut disk)
         }

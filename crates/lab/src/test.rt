@@ -1,6 +1,6 @@
 //! `lab test`.
 
-use crate::edge::{NO_MEMORY, REFUSED, UNWANTED, write_out};
+use crate::edge::{NO_MEMORY, REFUSED, UNWANTED, output_failed, write_out};
 use crate::files::open;
 use crate::run::status_of;
 use crate::stock::run_lab;
@@ -53,7 +53,7 @@ fn write_count(rt: &HostRuntime, count: Count) -> u8 {
     let failed = count.failed;
     match println!(rt; "{passed} passed, {failed} failed") {
         Ok(()) => count.status,
-        Err(_) => crate::edge::OUTPUT_FAILED,
+        Err(fault) => output_failed(rt, &fault),
     }
 }
 

@@ -1,8 +1,8 @@
 //! Why a lab file is refused, in words, with the place in the line.
 #![tactic(auto)]
 
+mod grafted;
 mod operands;
 mod sentence;
-mod spans;
 
-pub use crate::sentence::tell_fault;
+pub use crate::sentence::{tell_fault, tell_word};

@@ -1,8 +1,8 @@
 //! Which word of an instruction is wrong, and how.
 
-use crate::spans::{Span, bytes_of, next_word};
 use accessor_list::id_of;
 use gm_isa::{Op, form_of, op_named};
+use lab_places::{Span, bytes_of, next_word};
 use text_words::{is_label, number_of};
 
 /// A word that is wrong, or the place where one is missing, and what to say of it.
@@ -193,17 +193,46 @@ fn check_operands(line: &[u8], op: Op, at: usize, end: usize) -> Option<Wrong> {
     }
     match next_operand(&mut operands) {
         None => None,
-        Some((_, span)) => blames(
-            span,
-            "is one operand too many",
-            "docs/FORMATS.md has the operands of each instruction",
-        ),
+        Some((word, span)) => {
+            let hint = if word.starts_with(b"//") {
+                "a remark begins with #"
+            } else {
+                "docs/FORMATS.md has the operands of each instruction"
+            };
+            blames(span, "is one operand too many", hint)
+        }
+    }
+}
+
+/// What helps where nothing better is known of a word that names no operation.
+pub const LISTED: &str = "docs/FORMATS.md lists them";
+
+/// Whether a word begins a line of a script, and not of a graft.
+pub fn is_outside(word: &[u8]) -> bool {
+    match word {
+        b"graft"
+        | b"boot"
+        | b"image"
+        | b"install"
+        | b"bill"
+        | b"fund"
+        | b"frames"
+        | b"patience"
+        | b"grant"
+        | b"spawn"
+        | b"yield"
+        | b"step" => true,
+        _ => false,
     }
 }
 
 /// What is wrong with a first word that names no operation.
 fn check_mnemonic(word: &[u8], span: Span) -> Option<Wrong> {
-    let hint = if word.contains(&b':') {
+    let hint = if word.starts_with(b"//") {
+        "a remark begins with #"
+    } else if is_outside(word) {
+        "the line of a script; the graft above it has no `end`"
+    } else if word.contains(&b':') {
         "a label is a letter a to z, then letters, digits and _, up to 16 bytes, and a colon"
     } else if has_capital(word) {
         "instructions are written small"
@@ -212,7 +241,7 @@ fn check_mnemonic(word: &[u8], span: Span) -> Option<Wrong> {
     } else if id_of(word).is_some() {
         "a callable is called by `call` and its name"
     } else {
-        "docs/FORMATS.md lists them"
+        LISTED
     };
     blames(span, "isn't an instruction", hint)
 }

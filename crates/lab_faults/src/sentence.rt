@@ -1,37 +1,56 @@
 //! The sentence that tells of a fault.
 
-ghost use Rattle.std.specs.Prelude.{◌≡◌, length, min};
-ghost use Rattle.lab_faults.specs.Places as spec;
-
+use crate::grafted::{
+    compiler, known_names, label_not_set, label_twice, mnemonic, open_graft, unboxed,
+};
 use crate::operands::{Wrong, check_statement};
-use crate::spans::{Span, bytes_of, code_end, column_of, next_part, next_word, word_span};
 use kernel_data::NoMemory;
+use lab_likeness::most_like;
+use lab_places::{
+    Span, bytes_of, code_end, column_of, line_at, line_of, next_part, next_word, word_span,
+};
 use lab_reader::{AsmKind, LabFault, LabKind};
 use lab_words::{Code, text_of, words_of};
 use std::alloc::Global;
-use text_words::{append, part_at};
+use text_words::append;
 
-/// A fault in words: where in its line, its code if it has one, and what is said.
+/// A fault in words: its line, where in the line, and what is said.
 #[derive(Drop)]
-struct Sentence {
-    at: usize,
-    text: Vec<u8>,
+pub struct Sentence {
+    pub line: usize,
+    pub at: usize,
+    pub text: Vec<u8>,
+}
+
+/// A file and a line of it.
+#[derive(Clone, Copy)]
+pub struct Spot<'a> {
+    pub text: &'a [u8],
+    pub n: usize,
+    pub line: &'a [u8],
+}
+
+/// A sentence of a place of the file.
+pub fn at_place(file: &[u8], place: usize, text: Vec<u8>) -> Sentence {
+    let (line, from) = line_of(file, place);
+    Sentence {
+        line,
+        at: place.saturating_sub(from),
+        text,
+    }
+}
+
+/// Appends a word in quotes.
+pub fn add_quoted(out: &mut Vec<u8>, word: &[u8]) -> Result<(), NoMemory> {
+    append(out, b"'")?;
+    append(out, word)?;
+    append(out, b"'")
 }
 
 /// Appends a number.
-fn add_number(out: &mut Vec<u8>, n: usize) -> Result<(), NoMemory> {
+pub fn add_number(out: &mut Vec<u8>, n: usize) -> Result<(), NoMemory> {
     let mut digits = itoa::Buffer::new();
     append(out, digits.format(n).as_bytes())
-}
-
-/// Line n of a text, from 1, without its newline; line 0 is empty.
-fn line_at(text: &[u8], n: usize) -> &[u8]
-    ensures { result.now ≡ spec.line_at text.now n }
-{
-    if n == 0 {
-        return &[];
-    }
-    part_at(text, b'\n', n - 1)
 }
 
 /// The first byte of a line that isn't a space.
@@ -42,13 +61,28 @@ fn first_of(line: &[u8]) -> usize {
     }
 }
 
-/// Where word k of a line stands, or its end.
-fn place_of_word(line: &[u8], k: usize) -> Span {
-    let end = code_end(line);
-    match word_span(line, 0, end, k) {
+/// Where word k of a line stands, or the place behind its last word.
+pub fn place_of_word(line: &[u8], k: usize) -> Span {
+    match word_span(line, 0, code_end(line), k) {
         Some(word) => word,
-        None => Span { from: end, to: end },
+        None => {
+            let end = end_of(line);
+            Span { from: end, to: end }
+        }
     }
+}
+
+/// The place behind the last word of a line.
+pub fn end_of(line: &[u8]) -> usize {
+    let end = code_end(line);
+    let mut at = 0;
+    for _ in 0..line.len() {
+        match next_word(line, at, end) {
+            Some(word) => at = word.to,
+            None => return at,
+        }
+    }
+    at
 }
 
 /// The first statement of a line in which something is wrong by itself.
@@ -68,9 +102,8 @@ fn wrong_in(line: &[u8]) -> Option<Wrong> {
 /// Appends what is wrong with a word.
 fn add_wrong(out: &mut Vec<u8>, line: &[u8], wrong: Wrong) -> Result<(), NoMemory> {
     if wrong.named {
-        append(out, b"'")?;
-        append(out, bytes_of(line, wrong.span))?;
-        append(out, b"' ")?;
+        add_quoted(out, bytes_of(line, wrong.span))?;
+        append(out, b" ")?;
     }
     append(out, wrong.said.as_bytes())?;
     append(out, b" (")?;
@@ -79,56 +112,50 @@ fn add_wrong(out: &mut Vec<u8>, line: &[u8], wrong: Wrong) -> Result<(), NoMemor
 }
 
 /// Appends a code, a colon and a space.
-fn add_code(out: &mut Vec<u8>, code: Code) -> Result<(), NoMemory> {
+pub fn add_code(out: &mut Vec<u8>, code: Code) -> Result<(), NoMemory> {
     append(out, text_of(code))?;
     append(out, b": ")
 }
 
 /// What is said of a line that the assembler or the compiler refuses, where no word is to blame.
-fn coded(alloc: Global, line: &[u8], code: Code) -> Result<Sentence, NoMemory> {
+pub fn coded(alloc: Global, spot: Spot, code: Code) -> Result<Sentence, NoMemory> {
     let mut text = Vec::new(alloc);
     add_code(&mut text, code)?;
     append(&mut text, words_of(code).meaning.as_bytes())?;
     Ok(Sentence {
-        at: first_of(line),
+        line: spot.n,
+        at: first_of(spot.line),
+        text,
+    })
+}
+
+/// What is said of a word of a line that the assembler refuses.
+fn blamed(alloc: Global, spot: Spot, kind: AsmKind, wrong: Wrong) -> Result<Sentence, NoMemory> {
+    let mut text = Vec::new(alloc);
+    add_code(&mut text, Code::Assembler(kind))?;
+    if !mnemonic(alloc, &mut text, spot, wrong)? {
+        add_wrong(&mut text, spot.line, wrong)?;
+    }
+    Ok(Sentence {
+        line: spot.n,
+        at: wrong.span.from,
         text,
     })
 }
 
 /// What is said of a line that the assembler refuses.
-fn assembler(alloc: Global, line: &[u8], kind: AsmKind) -> Result<Sentence, NoMemory> {
-    let wrong = match kind {
-        AsmKind::UnknownMnemonic | AsmKind::BadOperands | AsmKind::BadData => wrong_in(line),
-        _ => None,
-    };
-    match wrong {
-        None => coded(alloc, line, Code::Assembler(kind)),
-        Some(wrong) => {
-            let mut text = Vec::new(alloc);
-            add_code(&mut text, Code::Assembler(kind))?;
-            add_wrong(&mut text, line, wrong)?;
-            Ok(Sentence {
-                at: wrong.span.from,
-                text,
-            })
+fn assembler(alloc: Global, spot: Spot, kind: AsmKind) -> Result<Sentence, NoMemory> {
+    match kind {
+        AsmKind::UnknownMnemonic | AsmKind::BadOperands | AsmKind::BadData => {
+            match wrong_in(spot.line) {
+                None => coded(alloc, spot, Code::Assembler(kind)),
+                Some(wrong) => blamed(alloc, spot, kind, wrong),
+            }
         }
+        AsmKind::LabelNotSet => label_not_set(alloc, spot),
+        AsmKind::LabelSetTwice => label_twice(alloc, spot),
+        AsmKind::TooManyInstructions => coded(alloc, spot, Code::Assembler(kind)),
     }
-}
-
-/// What is said of code that can't be boxed, with the number of the instruction.
-fn unboxed(alloc: Global, line: &[u8], pc: u32, said: &str) -> Result<Sentence, NoMemory> {
-    let mut text = Vec::new(alloc);
-    append(
-        &mut text,
-        b"the graft can't be put into its sandbox: instruction ",
-    )?;
-    add_number(&mut text, pc as usize)?;
-    append(&mut text, b" ")?;
-    append(&mut text, said.as_bytes())?;
-    Ok(Sentence {
-        at: place_of_word(line, 2).from,
-        text,
-    })
 }
 
 /// Which word of a line is to blame, from 0, and what is said.
@@ -179,7 +206,6 @@ fn said_of(kind: LabKind) -> (usize, &'static str) {
             0,
             "a wanted line stands behind a line of the script, or below it",
         ),
-        LabKind::BoxEnd => (2, "doesn't end with `ret`, `jmp` or `trap`"),
         LabKind::BoxTooLong => (
             2,
             "has more than 1024 instructions once it is put into its sandbox",
@@ -215,42 +241,65 @@ fn names_word(kind: LabKind) -> bool {
 }
 
 /// What is said of another line.
-fn plain(alloc: Global, line: &[u8], kind: LabKind) -> Result<Sentence, NoMemory> {
+fn plain(alloc: Global, spot: Spot, kind: LabKind) -> Result<Sentence, NoMemory> {
     let (k, said) = said_of(kind);
     let word = match kind {
-        LabKind::BadGraft => place_of_word(line, blamed_of_graft(line)),
-        _ => place_of_word(line, k),
+        LabKind::BadGraft => place_of_word(spot.line, blamed_of_graft(spot.line)),
+        _ => place_of_word(spot.line, k),
     };
     let mut text = Vec::new(alloc);
     if names_word(kind) {
-        append(&mut text, b"'")?;
-        append(&mut text, bytes_of(line, word))?;
-        append(&mut text, b"' ")?;
+        add_quoted(&mut text, bytes_of(spot.line, word))?;
+        append(&mut text, b" ")?;
     }
     append(&mut text, said.as_bytes())?;
     Ok(Sentence {
+        line: spot.n,
         at: word.from,
         text,
     })
 }
 
-/// What is said of a line that is refused for this.
-fn sentence_of(alloc: Global, line: &[u8], kind: LabKind) -> Result<Sentence, NoMemory> {
-    match kind {
-        LabKind::Asm(kind) => assembler(alloc, line, kind),
-        LabKind::Lang(kind) => coded(alloc, line, Code::Language(kind)),
-        LabKind::BoxRegister(pc) => {
-            unboxed(
-                alloc,
-                line,
-                pc,
-                "names r14 or r15, which the sandbox keeps for itself",
-            )
-        }
-        LabKind::BoxJump(pc) => unboxed(alloc, line, pc, "jumps past the code"),
-        LabKind::BoxCall(pc) => unboxed(alloc, line, pc, "calls an id above 15"),
-        other => plain(alloc, line, other),
+/// What is said of an image of a graft that there isn't, and of which graft may be meant.
+fn unknown_graft(alloc: Global, spot: Spot) -> Result<Sentence, NoMemory> {
+    let mut said = plain(alloc, spot, LabKind::UnknownGraft)?;
+    let names = known_names(alloc, spot)?;
+    let word = bytes_of(spot.line, place_of_word(spot.line, 2));
+    if let Some(i) = most_like(alloc, word, names.as_slice())? {
+        append(&mut said.text, b"; did you mean '")?;
+        append(&mut said.text, names[i].as_bytes())?;
+        append(&mut said.text, b"'?")?;
     }
+    Ok(said)
+}
+
+/// What is said of a line that is refused for this.
+fn sentence_of(alloc: Global, spot: Spot, kind: LabKind) -> Result<Sentence, NoMemory> {
+    match kind {
+        LabKind::Asm(kind) => assembler(alloc, spot, kind),
+        LabKind::Lang(kind) => compiler(alloc, spot, kind),
+        LabKind::BoxRegister(_) | LabKind::BoxJump(_) | LabKind::BoxCall(_) | LabKind::BoxEnd => {
+            unboxed(alloc, spot, kind)
+        }
+        LabKind::UnknownGraft => unknown_graft(alloc, spot),
+        LabKind::NoEnd => {
+            let mut said = plain(alloc, spot, kind)?;
+            open_graft(alloc, &mut said.text, spot)?;
+            Ok(said)
+        }
+        other => plain(alloc, spot, other),
+    }
+}
+
+/// Appends what a byte order mark does, where a file begins with one.
+fn add_mark(out: &mut Vec<u8>, text: &[u8]) -> Result<(), NoMemory> {
+    if text.starts_with(b"\xef\xbb\xbf") {
+        append(
+            out,
+            b" (the file begins with a byte order mark: save it without one)",
+        )?;
+    }
+    Ok(())
 }
 
 /// Appends the line, and below it a caret under the place.
@@ -272,38 +321,17 @@ fn add_caret(out: &mut Vec<u8>, line: &[u8], at: usize) -> Result<(), NoMemory> 
 }
 
 /// Appends `FILE:LINE:COLUMN: SENTENCE`, the line and a caret.
-fn add_place(
-    out: &mut Vec<u8>,
-    file: &[u8],
-    n: usize,
-    line: &[u8],
-    said: &Sentence,
-) -> Result<(), NoMemory> {
+fn add_place(out: &mut Vec<u8>, file: &[u8], text: &[u8], said: &Sentence) -> Result<(), NoMemory> {
+    let line = line_at(text, said.line);
     append(out, file)?;
     append(out, b":")?;
-    add_number(out, n)?;
+    add_number(out, said.line)?;
     append(out, b":")?;
     add_number(out, column_of(line, said.at))?;
     append(out, b": ")?;
     append(out, said.text.as_slice())?;
     append(out, b"\n")?;
     add_caret(out, line, said.at)
-}
-
-/// The number of the line in which this byte stands, and where the line begins.
-fn line_of(text: &[u8], at: usize) -> (usize, usize)
-    ensures number { result.0 ≡ spec.line_number text.now (min at (length text.now)) }
-    ensures begin { result.1 ≡ spec.line_begin text.now (min at (length text.now)) }
-{
-    let mut number = 1usize;
-    let mut from = 0;
-    for i in 0..at.min(text.len()) {
-        if text[i] == b'\n' {
-            number += 1;
-            from = i + 1;
-        }
-    }
-    (number, from)
 }
 
 /// Why a file with this name and text is refused: `FILE:LINE:COLUMN: SENTENCE`, the line, and a
@@ -335,9 +363,39 @@ pub fn tell_fault(
         }
         LabFault::At(n, kind) => {
             let line = line_at(text, n);
-            let said = sentence_of(alloc, line, kind)?;
-            add_place(&mut out, file, n, line, &said)?;
+            let mut said = sentence_of(alloc, Spot { text, n, line }, kind)?;
+            add_mark(&mut said.text, text)?;
+            add_place(&mut out, file, text, &said)?;
         }
     }
+    Ok(out)
+}
+
+/// Tells of word k of a line of a file, counted from 0, or of the place behind its last word:
+/// `FILE:LINE:COLUMN: CODE: SENTENCE`, the line, and a caret below it.
+pub fn tell_word(
+    alloc: Global,
+    file: &[u8],
+    text: &[u8],
+    n: usize,
+    k: usize,
+    code: Code,
+    sentence: &[u8],
+) -> Result<Vec<u8>, NoMemory> {
+    let line = line_at(text, n);
+    let mut said = Vec::new(alloc);
+    add_code(&mut said, code)?;
+    append(&mut said, words_of(code).meaning.as_bytes())?;
+    if !sentence.is_empty() {
+        append(&mut said, b": ")?;
+        append(&mut said, sentence)?;
+    }
+    let said = Sentence {
+        line: n,
+        at: place_of_word(line, k).from,
+        text: said,
+    };
+    let mut out = Vec::new(alloc);
+    add_place(&mut out, file, text, &said)?;
     Ok(out)
 }

@@ -90,6 +90,11 @@ joined old text new lines rest last x y =
           ∙ ap (λ t. t ++ last) (sym (flat_map-append written_in x.parts y.parts));
     }
 
+-- words on a line of their own below others
+pub one_head : (old text new kind about : List ℕ) → Tells old text [] [] →
+    new ≡ text ++ shown (RowHead kind about) → Tells old new [] []
+one_head old text new kind about x e = joined old text new [] [] [] x (row_head text new kind about e)
+
 -- lines more
 pub more : (old text new : List ℕ) (lines told rest : List (List ℕ)) →
     Tells old text lines (told ++ rest) → Tells text new told [] → Tells old new lines rest

@@ -10,6 +10,7 @@ mod written;
 
 pub use crate::pieces::{Piece, pieces_of};
 pub use crate::sink::LineSink;
-pub use crate::telling::told;
+pub use crate::telling::{Aids, told};
 pub use crate::testing::{Compared, compare, is_wanted};
 pub use kernel_data::NoMemory;
+pub use lab_hints::{Cause, Hints, causes_of, is_spent, refused_word};

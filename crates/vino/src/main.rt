@@ -7,6 +7,7 @@ use graft_points::{
 use mem_disk::{Disk, MemDisk};
 use real_edge::{GatheringSink, OrderedDisk, Output, PromptSource, open_disk};
 use std::alloc::AllocError;
+use std::fs::OpenOptions;
 use std::process::ExitCode;
 use std::rt::Stdout;
 use std::{env, io};
@@ -18,12 +19,46 @@ const OUTPUT_FAILED: u8 = 4;
 const NO_MEMORY: u8 = 5;
 
 fn main(rt: HostRuntime) -> ExitCode {
-    ExitCode::from(match words(&rt) {
+    let status = match words(&rt) {
         Ok(words) => run_words(&rt, &words),
         // A word that isn't UTF-8 is in no grammar.
         Err(fault) if fault.kind() == io::ErrorKind::InvalidData => run_words(&rt, &[]),
         Err(_) => NO_MEMORY,
-    })
+    };
+    tell_status(&rt, status);
+    ExitCode::from(status)
+}
+
+/// Tells on the standard error why a run ended early, where no line says it.
+fn tell_status(rt: &HostRuntime, status: u8) {
+    let said = match status {
+        3 => "standard input can't be read",
+        4 => "standard output can't be written",
+        5 => "there was no memory",
+        7 => "standard input has more than 16777216 bytes",
+        _ => return,
+    };
+    let _ = eprintln!(rt; "vino: {said}");
+}
+
+/// Whether a file has a block of a disk. It is opened for reading and writing, as the run does.
+fn has_block(rt: &HostRuntime, path: &str) -> io::Result<bool> {
+    let file = OpenOptions::new().read(true).write(true).open(rt, path)?;
+    Ok(file.metadata()?.len() >= 512)
+}
+
+/// Tells on the standard error why a file can't be the disk, where it can't. The file is closed
+/// before, since it may stand in the place of a standard stream that is closed.
+fn tell_disk(rt: &HostRuntime, path: &str) {
+    match has_block(rt, path) {
+        Ok(true) => (),
+        Ok(false) => {
+            let _ = eprintln!(rt; "vino: the disk {path} has no block of 512 bytes");
+        }
+        Err(fault) => {
+            let _ = eprintln!(rt; "vino: the disk {path} can't be opened: {fault}");
+        }
+    }
 }
 
 /// Does what the words ask: the exit status.
@@ -46,6 +81,7 @@ fn run_gathered(rt: &HostRuntime, words: &[String]) -> Option<u8> {
 fn run_over_disk(rt: &HostRuntime, words: &[String], output: &Output<Stdout>) -> Option<u8> {
     match words {
         [word, _, path] if word.as_str() == "run" => {
+            tell_disk(rt, path.as_str());
             let mut disk = OrderedDisk::new(open_disk(rt, path.as_str()), output);
             run_stock(rt, words, output, &mut disk).ok()
         }

@@ -1,6 +1,0 @@
-use Rattle.std.proofs.Common.{◌≡◌}
-use Rattle.lab_faults.specs.Places as spec
-use Rattle.lab_faults.proofs.spans.word_span.Given as goal
-
-abbrev pub invariant-loop : goal.invariant-loop
-invariant-loop l = l.word ≡ spec.word_number l.line l.from l.end l.counter
