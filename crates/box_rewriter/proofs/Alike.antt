@@ -59,7 +59,7 @@ pub record Fields (op : Op) (a b c : ℕ) : Type 0 where
   pub b14 : ((row_of op).form.b && b == 14) ≡ false
   pub c14 : ((row_of op).form.c && c == 14) ≡ false
 
-either : (t : Bool) (v x y : ℕ) → x ≡ y → cond t v x ≡ cond t v y
+pub either : (t : Bool) (v x y : ℕ) → x ≡ y → cond t v x ≡ cond t v y
 either true v x y h = refl
 either false v x y h = h
 

@@ -19,7 +19,7 @@ pub record Passed (code : List Instr) (n place : ℕ) (places : List ℕ) : Type
   pub few : place ≤ 3 * n
   pub each : (k : ℕ) → k < n → get_or places k 0 ≡ boxed_place code k
 
-place_zero : (code : List Instr) → 0 ≡ boxed_place code 0
+pub place_zero : (code : List Instr) → 0 ≡ boxed_place code 0
 place_zero [] = refl
 place_zero (i ∷ is) = refl
 

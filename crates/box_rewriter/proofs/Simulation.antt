@@ -25,6 +25,8 @@ use Rattle.box_rewriter.proofs.Faults.{rewritten}
 use Rattle.box_rewriter.proofs.Offsets.{masked_offset, masked_word, join_base}
 use Rattle.box_rewriter.proofs.Alike.{AreSame, IsAlike, GoneOn, DoneAlike, Stand, Fields}
 use Rattle.box_rewriter.proofs.Alike.{HasAddress, exec_alike, jump_alike, access_alike}
+use Rattle.box_rewriter.proofs.Alike.{either}
+use Rattle.box_rewriter.proofs.Places.{place_zero}
 
 -- ---- runs
 
@@ -39,10 +41,6 @@ pub record RunAlike (code : List Instr) (base : ℕ) (r b : CodeRun) : Type 0 wh
 call_same : (id : ℕ) (x y z u v w : ℕ) → x ≡ u → y ≡ v → z ≡ w
     → ◌≡◌ {A = MadeCall} (record { id = id; r0 = x; r1 = y; r2 = z }) (record { id = id; r0 = u; r1 = v; r2 = w })
 call_same id x y z u v w e f g = rw (e, f, g) refl
-
-either : (t : Bool) (v x y : ℕ) → x ≡ y → cond t v x ≡ cond t v y
-either true v x y h = refl
-either false v x y h = h
 
 answer_regs : (t : Bool) (p q : ℕ) (f g : ℕ → ℕ) (r : ℕ) → f r ≡ g r →
     cond t (at 1 q (at 0 p f)) (at 0 p f) r ≡ cond t (at 1 q (at 0 p g)) (at 0 p g) r
@@ -616,10 +614,6 @@ simulates code slot zero can few r b k a c =
     subst (λ (j : ℕ). RunAlike code (segment_base slot) r (run_by segment_place (boxed_code code) j b)) (sym none) a
 simulates code slot (suc n) can few r b k a c =
     by_end code slot n can few (simulates code slot n can few) r b k r.ended a refl c
-
-place_zero : (code : List Instr) → 0 ≡ boxed_place code 0
-place_zero [] = refl
-place_zero (i ∷ is) = refl
 
 some_code : (code : List Instr) → ends_well code ≡ true → 0 < length code
 some_code [] h = cc

@@ -48,7 +48,7 @@ none-free c h whole =
     ap (λ (o : Option FrameRow). is_none o) same ∙ used-not-free (row_at c.rows k) (all-used c h whole k inside))
 
 -- a frame holds a block where its row says so
-holds-row : (b : ℕ) (a : Option FrameRow) → holds b a ≡ true → (x : FrameRow) × (a ≡ Some x) × (x.block ≡ b)
+pub holds-row : (b : ℕ) (a : Option FrameRow) → holds b a ≡ true → (x : FrameRow) × (a ≡ Some x) × (x.block ≡ b)
 holds-row b None does = absurd (cc)
 holds-row b (Some x) does = (x, refl, grind (arith, nat_tests))
 

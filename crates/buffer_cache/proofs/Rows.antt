@@ -431,10 +431,6 @@ new-kept rows order count index least most is-rows is-order is-index =
       },
     )
 
--- a frame holds the block of its row
-holds-its : (b : ℕ) (a : Option FrameRow) (x : FrameRow) → a ≡ Some x → x.block ≡ b → holds b a ≡ true
-holds-its b a x is block = grind (arith, nat_tests, is, block)
-
 -- the index where the block that a frame was filled with leads to it
 lead-set : (rows : List (Option FrameRow)) (index : List ℕ) (f : ℕ) (r : FrameRow) →
     IsIndex index rows → f < length rows → f < 64 → r.block < 4096
@@ -466,7 +462,7 @@ lead-set rows index f r h inside range below one =
                 (get_or-set_same index r.block f 0 first ∙ sym same)
             | inr other ↦ let was : row_at rows g ≡ Some x = sym (get_or-set_other rows f g (Some r) None other) ∙ is in
                 let apart : x.block ≡ r.block → ⊥ =
-                λ same. other (one g (holds-its r.block (row_at rows g) x was same)) in
+                λ same. other (one g (holds-own (row_at rows g) r.block x was same)) in
                 get_or-set_other index r.block x.block f 0 apart ∙ h.leads g x was
           ];
     }

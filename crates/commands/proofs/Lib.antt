@@ -1,4 +1,3 @@
-mod Decoding
 mod FirstLine
 mod Statuses
 pub mod FilterLemmas

@@ -114,3 +114,9 @@ body_text-some [] g h = cc
 body_text-some (b ∷ bytes) g h =
     ap (λ (ds : List ℕ). codes ".bytes " ++ ds ++ 10 ∷ [])
     (encode-hex_text (b ∷ bytes) (λ k. omega (arith, g k)))
+
+-- bytes as digits of lower case
+pub encode_with-lower : (bytes : List ℕ) → encode_with (codes "0123456789abcdef") bytes ≡ hex_text bytes
+unfolding encode_with
+encode_with-lower [] = refl
+encode_with-lower (b ∷ bytes) = ap (λ text. hex_glyph (b / 16) ∷ hex_glyph (b % 16) ∷ text) (encode_with-lower bytes)

@@ -1,4 +1,3 @@
-pub mod Digits
 pub mod Hex
 pub mod LabelLemmas
 pub mod Linking

@@ -19,9 +19,12 @@ use Rattle.graft_texts.specs.Assembler.{statement_of, instr_line, instr_text, bo
 use Rattle.graft_texts.specs.Assembler.{with_lines, data_after, linked, image_of, empty_assembly}
 use Rattle.graft_texts.specs.Assembler.{assemble, disassemble}
 use Rattle.gm_asm.proofs.Hex.{said, hex_bytes-said, encode-hex_text}
-use Rattle.gm_asm.proofs.Texts.{first_true, second_true, both_true, list_all-joined, split_behind}
+use Rattle.gm_asm.proofs.Texts.{list_all-joined, split_behind}
 use Rattle.gm_asm.proofs.Texts.{split_whole, is_plain, no_space, no_newline, statement_by}
 use Rattle.gm_asm.proofs.Texts.{statement_of-line, line-no_newline}
+use Rattle.gm_image.proofs.RoundTrips.{first_true}
+use Rattle.gm_image.proofs.RoundTrips.{second_true}
+use Rattle.gm_image.proofs.RoundTrips.{both_true}
 
 -- ---- the lines of the text
 

@@ -23,24 +23,12 @@ use Rattle.graft_texts.specs.Assembler.{register_field, imm_field, Statement, In
 use Rattle.graft_texts.specs.Assembler.{or_bad_operands, with_c, operands_of, by_words}
 use Rattle.graft_texts.specs.Assembler.{statement_of, register_word, imm_word, operand_text}
 use Rattle.graft_texts.specs.Assembler.{instr_line}
-use Rattle.gm_asm.proofs.Digits.{own}
+use Rattle.gm_image.proofs.RoundTrips.{first_true}
+use Rattle.gm_image.proofs.RoundTrips.{second_true}
+use Rattle.text_words.proofs.Digits.{own}
+use Rattle.gm_image.proofs.RoundTrips.{both_true}
 
 -- ---- tests of lists
-
--- the first of two tests
-pub first_true : (a b : Bool) → (a && b) ≡ true → a ≡ true
-first_true true b h = refl
-first_true false b h = cc
-
--- the second of two tests
-pub second_true : (a b : Bool) → (a && b) ≡ true → b ≡ true
-second_true true b h = h
-second_true false b h = cc
-
--- two tests
-pub both_true : (a b : Bool) → a ≡ true → b ≡ true → (a && b) ≡ true
-both_true true b h g = g
-both_true false b h g = cc
 
 -- a test turned round
 pub not_true : (a : Bool) → not a ≡ true → a ≡ false

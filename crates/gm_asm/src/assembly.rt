@@ -170,10 +170,7 @@ impl<'a> Assembly<'a> {
         ensures err { IfErr result (λ e. Refuses e (spec.image_of (Ok self.entry))) }
     {
         let Assembly { code, body, labels } = self;
-        match link_code(alloc, &labels, code.as_slice()) {
-            Ok(code) => Ok(RawImage::new(code, body)),
-            Err(fault) => Err(fault),
-        }
+        Ok(RawImage::new(link_code(alloc, &labels, code.as_slice())?, body))
     }
 
     /// Adds what a line says, or refuses it.

@@ -45,10 +45,7 @@ pub fn assemble(alloc: Global, text: &[u8]) -> Result<RawImage, AsmFault>
     ensures ok { IfOk result (λ i. spec.assemble text.now ≡ Ok i) }
     ensures err { IfErr result (λ e. Refuses e (spec.assemble text.now)) }
 {
-    match read_lines(alloc, text) {
-        Ok(assembly) => assembly.link(alloc),
-        Err(fault) => Err(fault),
-    }
+    read_lines(alloc, text)?.link(alloc)
 }
 
 /// The text of an image: a line for each instruction, and one for the data if there is any.

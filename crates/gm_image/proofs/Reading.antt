@@ -1,9 +1,8 @@
 -- Reading code word by word.
-use Rattle.std.proofs.Common.{◌≡◌, ℕ, suc, ◌+◌, ◌-◌, ◌*◌, ◌<◌, ◌≤◌, Bool, true, false, not, List}
+use Rattle.std.proofs.Common.{◌≡◌, ℕ, suc, ◌+◌, ◌-◌, ◌*◌, ◌≤◌, Bool, true, false, not, List}
 use Rattle.std.proofs.Common.{[], ◌∷◌, ◌++◌, length, take, drop, Result, Ok, Err, refl, sym, ap}
 use Rattle.std.proofs.Common.{◌∙◌, append_assoc, add-one, arith, length-append, length-drop, ltb}
 use Rattle.std.proofs.Common.{codes}
-use Rattle.std.proofs.lemmas.List.{append-nil}
 use Rattle.std.proofs.lemmas.List.Folds.{list_all-append}
 use Rattle.std.specs.List.{list_all}
 use Rattle.graft_code.specs.declared.Instr.{Instr}
@@ -21,7 +20,7 @@ behind front (Err fault) = Err fault
 behind front (Ok rest) = Ok (front ++ rest)
 
 -- one more instruction goes to the front
-behind-with_first : (front : List Instr) (i : Instr) (pc : ℕ) (rest : Result (List Instr) LoadFault)
+pub behind-with_first : (front : List Instr) (i : Instr) (pc : ℕ) (rest : Result (List Instr) LoadFault)
     → behind front (with_first (Ok i) pc rest) ≡ behind (front ++ i ∷ []) rest
 behind-with_first front i pc (Err fault) = refl
 behind-with_first front i pc (Ok rest) = ap Ok (sym (append_assoc front (i ∷ []) rest))

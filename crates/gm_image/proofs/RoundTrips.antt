@@ -38,6 +38,11 @@ pub second_true : (a b : Bool) → (a && b) ≡ true → b ≡ true
 second_true true b h = h
 second_true false b h = cc
 
+-- two tests that pass, as one
+pub both_true : (a b : Bool) → a ≡ true → b ≡ true → (a && b) ≡ true
+both_true true b h g = g
+both_true false b h g = cc
+
 -- the bytes of code that fits decode to it
 decoded-code_bytes : DecodeUndoesEncode → (code : List Instr) (pc : ℕ) → list_all fits code ≡ true
     → decoded (length code) pc (code_bytes code) ≡ Ok code

@@ -1,8 +1,8 @@
 -- Reading words of eight bytes, and what refuses a sealed image.
-use Rattle.std.proofs.Common.{◌≡◌, ℕ, zero, suc, ◌+◌, ◌-◌, ◌*◌, ◌<◌, ◌≤◌, List, [], ◌∷◌, ◌++◌}
+use Rattle.std.proofs.Common.{◌≡◌, ℕ, zero, suc, ◌+◌, ◌-◌, ◌*◌, ◌≤◌, List, [], ◌∷◌, ◌++◌}
 use Rattle.std.proofs.Common.{length, take, drop, Some, refl, sym, ap, ◌∙◌, append_assoc, arith}
 use Rattle.std.proofs.Common.{length-append, length-drop}
-use Rattle.std.proofs.lemmas.List.{append-nil, drop-take}
+use Rattle.std.proofs.lemmas.List.{drop-take}
 use Rattle.graft_code.specs.Images.{head_fault}
 use Rattle.gm_image.specs.declared.ImageFault.{ImageFault}
 use Rattle.gm_image.specs.Faults.{Refuses, refusal_of}

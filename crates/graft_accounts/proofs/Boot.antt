@@ -1,12 +1,12 @@
 -- The accounts at boot.
-use Rattle.std.proofs.Common.{◌≡◌, ℕ, zero, suc, ◌+◌, ◌*◌, ◌==◌, nat_lt, Bool, true, false, cond}
+use Rattle.std.proofs.Common.{◌≡◌, ℕ, zero, suc, ◌+◌, ◌*◌, ◌==◌, nat_lt, cond}
 use Rattle.std.proofs.Common.{length, replicate, slice_index, slice_index_or, Option, None, refl}
 use Rattle.std.proofs.Common.{sym, subst, ◌∙◌, ap, arith}
 use Rattle.std.proofs.Math.Path.{fun_ext}
 use Rattle.std.proofs.lemmas.List.{length-replicate}
 use Rattle.kernel_model.specs.declared.Kind.{Kind}
 use Rattle.kernel_model.specs.declared.Kind.TheVariants.{Steps, Records, Locks}
-use Rattle.kernel_model.specs.Objects.{GraftValue, AcctValue}
+use Rattle.kernel_model.specs.Objects.{AcctValue}
 use Rattle.kernel_model.specs.Opening.{opening_account, opening_accounts}
 use Rattle.graft_accounts.specs.declared.rows.Standing.{Standing}
 use Rattle.graft_accounts.specs.Sums.{Sums, IsSums, IsKept, opening, more_at}
@@ -14,6 +14,7 @@ use Rattle.graft_accounts.specs.Table.{Table, IsTable, sums_of, standing_at, acc
 use Rattle.graft_accounts.proofs.Places.{set_here, set_other, at_by}
 use Rattle.graft_accounts.proofs.Seen.{accounts_by}
 use Rattle.graft_accounts.proofs.Totals.{total_of}
+use Rattle.graft_accounts.proofs.Empty.{either_none}
 
 all_alike : {A : Type 0} (d : A) (n i : ℕ) → slice_index_or (replicate n d) i d ≡ d
 all_alike d zero i = refl
@@ -61,10 +62,6 @@ account_at_boot t grant r b =
     (fun_ext (λ k. ap (λ (s : Sums). slice_index s.balances r) (sums_at_boot t grant k b) ∙ first_balance grant r))
     ∙ ap (value (λ k. cond (r == 0) grant 0))
     (fun_ext (λ k. ap (λ (s : Sums). slice_index s.spent r) (sums_at_boot t grant k b) ∙ all_alike 0 16 r))
-
-either_none : (b : Bool) → cond {A = Option GraftValue} b None None ≡ None
-either_none true = refl
-either_none false = refl
 
 graft_at_boot : (t : Table) (grant q pt : ℕ) → IsBoot t grant → (accounts_of t).graft q pt ≡ None
 graft_at_boot t grant q pt b =

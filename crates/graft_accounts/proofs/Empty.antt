@@ -34,7 +34,7 @@ zero_by (suc n) e = grind (arith, nat_tests, e)
 pub not_zero : (n : ℕ) → n ≡ 0 → not (n == 0) ≡ false
 not_zero n e = ap (λ m. not (m == 0)) e
 
-either_none : (b : Bool) → cond {A = Option GraftValue} b None None ≡ None
+pub either_none : (b : Bool) → cond {A = Option GraftValue} b None None ≡ None
 either_none true = refl
 either_none false = refl
 

@@ -1,5 +1,5 @@
 -- Accounts and grafts: as arrays, and as the kernel's state sees them.
-use Rattle.std.specs.Prelude.{◌≡◌, ℕ, ◌+◌, ◌*◌, ◌<◌, true, false, cond, nat_lt, List, length}
+use Rattle.std.specs.Prelude.{◌≡◌, ℕ, ◌+◌, ◌*◌, true, false, cond, nat_lt, List, length}
 use Rattle.std.specs.Prelude.{slice_index, slice_index_or, slice_set, Option, Some, None}
 use Rattle.std.specs.Prelude.{option_map, Result, Ok, Err}
 use Rattle.kernel_model.specs.declared.Kind.{Kind}

@@ -26,11 +26,9 @@ pub fn compile(alloc: Global, text: &[u8]) -> Result<RawImage, LangFault>
     ensures accepted { IfOk result (λ image. IsCompiled text.now image) }
     ensures refused { IfErr result (λ fault. Refuses fault (spec.read text.now)) }
 {
-    match read(alloc, text) {
-        Err(fault) => Err(fault),
-        Ok(syntax) => match write_program(alloc, &syntax) {
-            Err(_) => Err(LangFault::NoMemory),
-            Ok(code) => Ok(RawImage::new(code, Vec::new(alloc))),
-        },
+    let syntax = read(alloc, text)?;
+    match write_program(alloc, &syntax) {
+        Err(_) => Err(LangFault::NoMemory),
+        Ok(code) => Ok(RawImage::new(code, Vec::new(alloc))),
     }
 }

@@ -1,12 +1,12 @@
 -- A log whose newest records are undone, and records that can still be undone.
-use Rattle.std.proofs.Common.{◌≡◌, ℕ, suc, ◌<◌, List, [], ◌∷◌, ◌++◌, Some, None, length, arith}
-use Rattle.std.proofs.Common.{refl, sym, ◌∙◌, ap, subst}
+use Rattle.std.proofs.Common.{◌≡◌, ℕ, suc, ◌<◌, List, [], ◌∷◌, ◌++◌, Some, length, arith}
+use Rattle.std.proofs.Common.{refl, sym, ap, subst}
 use Rattle.kernel_model.specs.declared.Inverse.{Inverse}
-use Rattle.kernel_model.specs.Objects.{Objects, Things, with_things}
+use Rattle.kernel_model.specs.Objects.{Things}
 use Rattle.kernel_model.specs.Access.{undo}
 use Rattle.graft_accessors.specs.Accesses.{CanBeUndone}
 use Rattle.undo_calls.specs.UndoLevels.{Logged, found_of, innermost, newest, without_newest}
-use Rattle.graft_levels.specs.Chains.{put_back, put_back_on, outer}
+use Rattle.graft_levels.specs.Chains.{put_back, outer}
 use Rattle.graft_levels.specs.Calls.{AreUndoable, AllUndoable}
 
 -- a log without its newest record, which is i

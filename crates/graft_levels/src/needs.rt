@@ -1,6 +1,7 @@
 //! What the next instruction needs.
 
-ghost use Rattle.std.specs.Prelude.{false, true, ◌≡◌, ℕ, ◌<◌, ◌≤◌, ◌==◌, ◌||◌, ◌∷◌, ◌++◌, [], List, length, slice_index, All};
+ghost use Rattle.std.specs.Prelude.{false, true, ◌≡◌, ℕ, ◌<◌, ◌≤◌, ◌==◌, ◌||◌, ◌∷◌, ◌++◌, []};
+ghost use Rattle.std.specs.Prelude.{List, length, slice_index, All};
 ghost use Rattle.kernel_model.specs.declared.Kind.TheVariants.{Steps};
 ghost use Rattle.kernel_model.specs.declared.Mode.TheVariants.{Shared};
 ghost use Rattle.kernel_model.specs.declared.Need.{Need as Needed};

@@ -6,6 +6,9 @@ use Rattle.std.specs.Int.Bits.{xor_add_and, xor_self, or_zero_l}
 use Rattle.std.proofs.lemmas.Nat.{le_or_l, le_or_r, and_le_l, and_le_r}
 use Rattle.std.proofs.lemmas.Bool.Decides.{Decides-eqb, same_from_decides}
 use Rattle.graft_code.specs.World.{same_bytes}
+use Rattle.gm_image.proofs.RoundTrips.{first_true}
+use Rattle.gm_image.proofs.RoundTrips.{second_true}
+use Rattle.gm_image.proofs.RoundTrips.{both_true}
 
 -- no bit differs so far, nor in these two
 none_differ : (d a b : ℕ) → bit_or d (bit_xor a b) ≡ 0 → (d ≡ 0) × (a ≡ b)
@@ -18,17 +21,6 @@ none_differ d a b h =
 -- two that are one differ in no bit
 same_differ : (d a b : ℕ) → d ≡ 0 → a ≡ b → bit_or d (bit_xor a b) ≡ 0
 same_differ d a b h e = rw (h, e, xor_self) (or_zero_l 0)
-
-and_first : (s t : Bool) → (s && t) ≡ true → s ≡ true
-and_first true t h = refl
-and_first false t h = h
-
-and_second : (s t : Bool) → (s && t) ≡ true → t ≡ true
-and_second true t h = h
-and_second false t h = cc
-
-and_both : (s t : Bool) → s ≡ true → t ≡ true → (s && t) ≡ true
-and_both s t h g = rw (h, g) refl
 
 and_last : (s : Bool) → (s && true) ≡ s
 and_last true = refl
@@ -43,11 +35,11 @@ both_pass : (d a b : ℕ) → eqb (bit_or d (bit_xor a b)) 0 ≡ (eqb d 0 && eqb
 both_pass d a b =
     same_from_decides {P = bit_or d (bit_xor a b) ≡ 0} (eqb (bit_or d (bit_xor a b)) 0)
     (eqb d 0 && eqb a b) (Decides-eqb (bit_or d (bit_xor a b)) 0) (
-      λ h. same_differ d a b ((Decides-eqb d 0).0 (and_first (eqb d 0) (eqb a b) h))
-          ((Decides-eqb a b).0 (and_second (eqb d 0) (eqb a b) h)),
+      λ h. same_differ d a b ((Decides-eqb d 0).0 (first_true (eqb d 0) (eqb a b) h))
+          ((Decides-eqb a b).0 (second_true (eqb d 0) (eqb a b) h)),
       λ h.
           let n = none_differ d a b h in
-          and_both (eqb d 0) (eqb a b) ((Decides-eqb d 0).1 n.0) ((Decides-eqb a b).1 n.1),
+          both_true (eqb d 0) (eqb a b) ((Decides-eqb d 0).1 n.0) ((Decides-eqb a b).1 n.1),
     )
 
 -- one more byte of two lists

@@ -1,7 +1,7 @@
 -- Decoding words one by one, and what is said of the parts of sealed bytes.
 use Rattle.std.proofs.Common.{◌≡◌, ℕ, zero, suc, ◌+◌, ◌-◌, ◌*◌, true, false, List, [], ◌∷◌, ◌++◌}
 use Rattle.std.proofs.Common.{length, take, drop, Option, None, Some, Result, Ok, Err, refl, sym}
-use Rattle.std.proofs.Common.{ap, ◌∙◌, append_assoc, add-one, nat_le, arith, length-append, get_or}
+use Rattle.std.proofs.Common.{ap, ◌∙◌, add-one, nat_le, arith, length-append, get_or}
 use Rattle.std.proofs.Common.{◌<◌}
 use Rattle.std.proofs.Math.Seq.{drop-cons}
 use Rattle.std.proofs.lemmas.List.Folds.{list_all-append}
@@ -20,17 +20,12 @@ use Rattle.gm_image.specs.declared.ImageFault.{ImageFault}
 use Rattle.gm_image.specs.Faults as image
 use Rattle.graft_loader.specs.Faults.{Refuses, of_image}
 use Rattle.graft_loader.specs.Loading.{decoded_words, sealed_by, loaded}
+use Rattle.gm_image.proofs.Reading.{behind-with_first}
 
 -- instructions before the others, unless one of these is refused
 abbrev pub behind : List Instr → Result (List Instr) LoadFault → Result (List Instr) LoadFault
 behind front (Err fault) = Err fault
 behind front (Ok rest) = Ok (front ++ rest)
-
--- one more instruction goes to the front
-behind-with_first : (front : List Instr) (i : Instr) (pc : ℕ) (rest : Result (List Instr) LoadFault)
-    → behind front (with_first (Ok i) pc rest) ≡ behind (front ++ i ∷ []) rest
-behind-with_first front i pc (Err fault) = refl
-behind-with_first front i pc (Ok rest) = ap Ok (sym (append_assoc front (i ∷ []) rest))
 
 -- so many words are these instructions, and the rest are still to be decoded
 pub record Decodes (words : List (List ℕ)) (pc : ℕ) (code : List Instr) : Type 0 where

@@ -298,8 +298,6 @@ pub fn reseal(alloc: Global, keys: &Keys, bytes: &[u8]) -> Result<Vec<u8>, LoadF
     ensures ok { IfOk result (λ sealed. spec.reseal keys.now bytes.now ≡ Ok sealed.items) }
     ensures err { IfErr result (λ e. Refuses e (spec.reseal keys.now bytes.now)) }
 {
-    match load(alloc, keys, bytes) {
-        Ok(image) => sealed_again(alloc, keys, &image),
-        Err(fault) => Err(fault),
-    }
+    let image = load(alloc, keys, bytes)?;
+    sealed_again(alloc, keys, &image)
 }

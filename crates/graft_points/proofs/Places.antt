@@ -1,11 +1,10 @@
 -- The policies of a shelf by place, where the shelf is a list of boxes that are seen as policies.
-use Rattle.std.proofs.Common.{◌≡◌, ℕ, ◌<◌, IsTrue, nat_eq, Option, Some, None, List, [], ◌∷◌}
-use Rattle.std.proofs.Common.{length, refl, slice_index, map, slice_index_or, slice_set, sym, ◌∙◌}
-use Rattle.std.proofs.Common.{ap, arith}
+use Rattle.std.proofs.Common.{◌≡◌, ℕ, ◌<◌, List}
+use Rattle.std.proofs.Common.{length, map, slice_index_or, slice_set, sym, ◌∙◌}
+use Rattle.std.proofs.Common.{ap}
 use Rattle.std.proofs.lemmas.List.{get_or-map, map-set, ext_get_or}
-use Rattle.std.proofs.lemmas.Bool.Decides.{nat_tests}
 use Rattle.graft_points.specs.Views.{PolicyView}
-use Rattle.graft_points.specs.Shelf.{no_policy, view_at, retuned, shelf_with, params_of}
+use Rattle.graft_points.specs.Shelf.{no_policy, view_at, retuned, shelf_with}
 
 -- the policy of the box at a place
 pub view_at_map : {B : Type 0} (f : B → PolicyView) (xs : List B) (i : ℕ) (d : B) → i < length xs →

@@ -76,7 +76,7 @@ any_at p [] k d h e = absurd (omega arith)
 any_at p (x ∷ xs) zero d h e = rw e refl
 any_at p (x ∷ xs) (suc k) d h e = rw (any_at p xs k d (omega arith) e) (grind (arith, nat_tests))
 
-same_number : (n : ℕ) → (n == n) ≡ true
+pub same_number : (n : ℕ) → (n == n) ≡ true
 same_number n = grind (arith, nat_tests)
 
 -- each of a list stands there by its number

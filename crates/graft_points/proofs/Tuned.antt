@@ -4,7 +4,7 @@ use Rattle.std.proofs.Common.{◌==◌, List, [], ◌∷◌, length, Option, Som
 use Rattle.std.proofs.Common.{slice_index, slice_set, refl, sym, subst, ◌∙◌, ap, arith}
 use Rattle.std.proofs.Math.Path.{fun_ext}
 use Rattle.std.proofs.lemmas.Bool.Decides.{nat_tests}
-use Rattle.std.proofs.lemmas.List.{get_or-set_same, get_or-set_other, length-set}
+use Rattle.std.proofs.lemmas.List.{get_or-set_same, get_or-set_other}
 use Rattle.kernel_model.specs.Objects.{PolValue, at}
 use Rattle.kernel_model.specs.Early.{policy_count}
 use Rattle.kernel_model.specs.Sound.{ParamFits}
@@ -16,6 +16,7 @@ use Rattle.graft_points.specs.Shelf.{IsShelf, IsPolicy, no_policy, code_of, view
 use Rattle.graft_points.specs.Shelf.{param_on, pol_of, retuned, shelf_with, head_of, stock_views}
 use Rattle.graft_points.specs.Shelf.{first_choice}
 use Rattle.graft_points.proofs.Chosen.{code_below, top_of_its_code, is_its_policy}
+use Rattle.graft_points.proofs.Rows.{same_number}
 
 -- ---- the policies of a shelf
 
@@ -87,9 +88,6 @@ param_after views kind c x k j s h i r true q d e =
     (let P : ℕ → Type 0 = λ n. param_on (shelf_with (code_of kind c) x views) n j ≡ x in
     let Q : ℕ → Type 0 = λ n. param_on (shelf_with (code_of kind c) x views) kind n ≡ x in
     subst P k_is (subst Q j_is (param_here views kind c x s h i r)))
-
-same_number : (n : ℕ) → (n == n) ≡ true
-same_number n = grind (arith, nat_tests)
 
 -- the values of the kinds, where the parameter of the chosen policy of one was set
 value_after : (views : List PolicyView) (choice : List ℕ) (kind x k : ℕ) → IsShelf views → kind < 3 →

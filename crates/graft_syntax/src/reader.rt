@@ -357,8 +357,6 @@ pub fn read_text(alloc: Global, text: &[u8]) -> Result<Syntax<'_>, LangFault>
         Ok(reader) => reader,
         Err(_) => return Err(LangFault::NoMemory),
     };
-    match read_words(&mut reader, text) {
-        Ok(()) => reader.end(alloc, text, last_line(text)),
-        Err(fault) => Err(fault),
-    }
+    read_words(&mut reader, text)?;
+    reader.end(alloc, text, last_line(text))
 }

@@ -47,6 +47,7 @@ use Rattle.running_kernel.specs.Views.{placed_of, run_of, IsRunning, HasAbstract
 use Rattle.kernel_core.specs.EventRefines.{EventRefines}
 use Rattle.kernel_core.proofs.LastLemmas.{did_note}
 use Rattle.kernel_core.proofs.WentLemmas.{ordered_called}
+use Rattle.running_kernel.proofs.QueryLemmas.{order_numbers}
 
 -- ---- who isn't in the order
 
@@ -62,10 +63,6 @@ entry_of_process p (e ∷ es) h = by_test (e.process == p) refl (entry_of_proces
     by_test false is further =
         let f = further (sym (ap (λ t. t || in_order p es) is) ∙ h) in
         (f.0, (suc f.1.0, omega (arith, f.1.1), f.1.2), f.2)
-
-order_numbers : (p : ℕ) (ws : List Waiting) → in_order p (order_of ws) ≡ has_number p (numbers_of ws)
-order_numbers p [] = refl
-order_numbers p (w ∷ ws) = ap (λ b. (w.process == p) || b) (order_numbers p ws)
 
 -- who has no call doesn't stand there
 pub uncalled_unordered : (m : Meaning) → SameShown m → (x : Placed) (p : ℕ) (ws : List Waiting) →

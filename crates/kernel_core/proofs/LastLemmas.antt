@@ -20,6 +20,7 @@ use Rattle.kernel_steps.specs.Moments.{kernel_moment}
 use Rattle.kernel_steps.specs.Faults.{fault_notes}
 use Rattle.kernel_steps.specs.Refines.{Adds, Refines}
 use Rattle.running_kernel.specs.Views.{run_of}
+use Rattle.kernel_core.proofs.TickLemmas.{same_number}
 
 -- a note was said
 pub did_note : (x : Placed) (note : Note) (kept kept_new : List Note) (d : DiskSeen) →
@@ -46,9 +47,6 @@ waits_unsaid x number o kept d is =
     (kernel_moment x kept d)) is (did_nothing x kept d)
 
 -- ---- by the call
-
-same_number : (a b : ℕ) → Some a ≡ Some b → a ≡ b
-same_number a b h = cc
 
 -- there is none
 pub last_none : (m : Meaning) (x : Placed) (p : ℕ) (kept : List Note) (d : DiskSeen) →

@@ -206,8 +206,3 @@ module _ (m : Meaning) (x : Placed) where
         stands = after;
         rests = rests;
       }
-
--- a call that there is
-pub called : (o : Option PlacedCall) → is_some o ≡ true → (c : PlacedCall) × (o ≡ Some c)
-called None h = absurd cc
-called (Some c) h = (c, refl)

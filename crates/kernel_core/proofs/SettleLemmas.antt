@@ -17,6 +17,7 @@ use Rattle.kernel_steps.specs.Moments.{kernel_moment}
 use Rattle.kernel_steps.specs.Runs.{CanRun, RefinesAndKeeps}
 use Rattle.running_kernel.specs.Views.{placed_of, call_at, run_of, IsRunning, HasAbstraction}
 use Rattle.kernel_core.proofs.WentLemmas.{called_small, ordered_called}
+use Rattle.kernel_core.proofs.TickLemmas.{same_number}
 
 -- ---- the first that nothing blocks
 
@@ -26,9 +27,6 @@ pub record IsFree (m : Meaning) (x : Placed) (locks : LockTable) (es : List Wait
   pub among : Contains es entry
   pub process : entry.process ≡ p
   pub free : placed_blocker_in m x locks p ≡ None
-
-same_number : (a b : ℕ) → Some a ≡ Some b → a ≡ b
-same_number a b h = cc
 
 free_from : (m : Meaning) (x : Placed) (locks : LockTable) (es : List Waiter) (p : ℕ) →
     placed_first_free_in m x locks es ≡ Some p → IsFree m x locks es p

@@ -26,15 +26,9 @@ use Rattle.kernel_core.specs.EventParts.{steps_left, steps_said, taken_up, takes
 use Rattle.kernel_core.specs.EventParts.{Leads, RefinesFromRest, RefinesToRest, Rests}
 use Rattle.kernel_steps.specs.Refines.{Refines, RunMatches}
 use Rattle.running_kernel.specs.Views.{run_of}
+use Rattle.kernel_steps.specs.Composing.{run_is}
 
 -- ---- what is left of a change
-
--- an event under way that came as said is this one
-run_is : (r : PlacedRun) (y : Placed) (kept : List Note) (known : Option (List (List ℕ)))
-    (rest : List Bool) → RunMatches r y kept known rest → r ≡ run_of y r.blocks r.notes rest
-run_is r y kept known rest h =
-    ap (λ z. record { placed = z; blocks = r.blocks; notes = r.notes; io = r.io }) h.placed
-    ∙ ap (λ io. record { placed = y; blocks = r.blocks; notes = r.notes; io = io }) h.io
 
 -- at the beginning all is left
 pub come_first : (m : Meaning) (f : PlacedRun → PlacedRun) (x : Placed) (kept : List Note)

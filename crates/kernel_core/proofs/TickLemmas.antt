@@ -80,7 +80,7 @@ actions_some m n k x e is h blocks notes io =
 
 -- ---- a waiter
 
-same_number : (a b : ℕ) → Some a ≡ Some b → a ≡ b
+pub same_number : (a b : ℕ) → Some a ≡ Some b → a ≡ b
 same_number a b h = cc
 
 -- it has no call
@@ -134,11 +134,6 @@ waiter_drops m x p n k b h many blocks notes io = by_call (x.call p) h
         ≡ placed_drop m p k (TimeOut b.object b.holder) (run_of x blocks notes io)
     by_call None h = grind (arith, h)
     by_call (Some c) h = by_levels c (x.levels p) many
-
--- no level
-pub no_level : (ls : List PlacedLevel) → length ls ≡ 0 → ls ≡ []
-no_level [] h = refl
-no_level (l ∷ ls) h = absurd (omega (arith, h))
 
 -- ---- a holder
 

@@ -21,6 +21,7 @@ use Rattle.kernel_steps.specs.Runs.{IsSoundOn, RefinesAndKeeps}
 use Rattle.kernel_steps.specs.Faults.{fault_notes}
 use Rattle.kernel_steps.specs.Refines.{Adds}
 use Rattle.running_kernel.specs.Views.{placed_of, run_of, IsRunning, HasAbstraction}
+use Rattle.kernel_steps.proofs.WholeLemmas.{has_call}
 
 -- ---- a kernel goes on to stand
 
@@ -127,16 +128,6 @@ went_nothing m x kept d running abstraction =
 
 -- ---- who stands in the order
 
--- a process with levels has a call
-pub levels_called : (m : Meaning) → SameShown m → (x : Placed) (p : ℕ) → HasAbstraction m x →
-    has_some (x.levels p) ≡ true → is_some (x.call p) ≡ true
-levels_called m shown x p s some =
-    by_call (s.kernel.call p) (shown.level x s.kernel p s.stands ∙ some) (s.stands.calls p)
-  where
-    by_call : (c : Option Call) → has_level c ≡ true → x.call p ≡ without_history c → is_some (x.call p) ≡ true
-    by_call None h is = grind (arith, h)
-    by_call (Some c) h is = ap is_some is
-
 -- levels are some where there is one
 some_of_many : (ls : List Level) → 1 ≤ length ls → has_some (map bare ls) ≡ true
 some_of_many [] h = absurd (omega (arith, h))
@@ -154,7 +145,7 @@ ordered_called m shown x e s has = by_piece (is_at_piece (s.kernel.call e.proces
     by_piece : (b : Bool) → is_at_piece (s.kernel.call e.process) ≡ b → is_some (x.call e.process) ≡ true
     by_piece true h = ap is_some (s.stands.calls e.process) ∙ at_piece_called (s.kernel.call e.process) h
     by_piece false h =
-        levels_called m shown x e.process s
+        has_call m shown x e.process s
         (ap has_some (s.stands.levels e.process) ∙ some_of_many (levels_of m s.kernel e.process)
         (s.stands.kernel.others e (subst (λ es. Contains es e) s.stands.order has) h).1)
 

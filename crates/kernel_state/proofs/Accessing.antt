@@ -1,15 +1,14 @@
 -- What the accessors of grafts look at and change.
-use Rattle.std.proofs.Common.{◌≡◌, ℕ, zero, suc, ◌+◌, ◌<◌, ◌≤◌, ◌==◌, ◌||◌, Bool, true, false}
-use Rattle.std.proofs.Common.{cond, List, [], ◌∷◌, length, get_or, drop, map, filter, Option, Some}
+use Rattle.std.proofs.Common.{◌≡◌, ℕ, ◌≤◌, ◌==◌, ◌||◌, Bool, true, false}
+use Rattle.std.proofs.Common.{cond, List, [], ◌∷◌, length, map, filter, Option, Some}
 use Rattle.std.proofs.Common.{None, nat_le, refl, arith, sym, ◌∙◌, ap}
 use Rattle.std.specs.List.{list_any, list_all}
 use Rattle.std.specs.Option.{is_some}
-use Rattle.std.specs.Result.{is_ok}
 use Rattle.std.proofs.lemmas.Bool.Decides.{nat_tests}
 use Rattle.std.proofs.lemmas.List.{get_or_past}
 use Rattle.kernel_data.specs.declared.FrameRow.{FrameRow}
 use Rattle.kernel_data.specs.declared.QueueRow.{QueueRow}
-use Rattle.kernel_data.specs.Objects.{Objects, Things, CacheValue, with_things}
+use Rattle.kernel_data.specs.Objects.{CacheValue}
 use Rattle.kernel_data.specs.Policies.{lives, nice_of, first_nice, is_owned, frames_of}
 use Rattle.kernel_model.specs.Access.{with_nice}
 use Rattle.buffer_cache.specs.Frames.{Frames, row_at, in_use, IsFrames}

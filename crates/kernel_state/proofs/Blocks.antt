@@ -1,15 +1,13 @@
 -- The blocks of files lie on the disk.
-use Rattle.std.proofs.Common.{◌≡◌, ℕ, ◌+◌, ◌*◌, ◌<◌, ◌≤◌, ◌&&◌, nat_le, nat_lt, Bool, true, false}
-use Rattle.std.proofs.Common.{cond, Option, Some, None, Result, Ok, Err, arith, sym, ◌∙◌, ap}
+use Rattle.std.proofs.Common.{◌≡◌, ℕ, ◌+◌, ◌*◌, ◌<◌, ◌≤◌, ◌&&◌, nat_le, nat_lt, true}
+use Rattle.std.proofs.Common.{Option, Some, None, arith, ap}
 use Rattle.std.proofs.lemmas.Bool.{and_parts}
 use Rattle.std.proofs.lemmas.Bool.Decides.{nat_tests}
 use Rattle.kernel_data.specs.declared.FileRow.{FileRow}
 use Rattle.kernel_data.specs.declared.OpenRow.{OpenRow}
-use Rattle.kernel_data.specs.declared.Refusal.{Refusal}
-use Rattle.kernel_data.specs.declared.Refusal.TheVariants.{BadIndex}
 use Rattle.kernel_data.specs.World.{World, file_row, blocks_of}
 use Rattle.kernel_data.specs.Directory.{lies_on_disk}
-use Rattle.kernel_model.specs.Needs.{file_block, file_block_in, is_within}
+use Rattle.kernel_model.specs.Needs.{is_within}
 use Rattle.kernel_model.specs.Sound.{IsSoundFile}
 
 -- a file's blocks lie on the disk

@@ -1,7 +1,7 @@
 -- A range of memory as a segment.
 use Rattle.std.proofs.Common.{◌≡◌, ℕ, ◌+◌, ◌-◌, ◌<◌, ◌≤◌, nat_lt, true, false, cond, List, length}
-use Rattle.std.proofs.Common.{take, drop, Some, slice_index, slice_range, subst, arith, sym, ◌∙◌}
-use Rattle.std.proofs.Common.{ap, inl, inr, length-drop, length-take-le}
+use Rattle.std.proofs.Common.{drop, Some, slice_index, slice_range, subst, arith, sym, ◌∙◌}
+use Rattle.std.proofs.Common.{ap, inl, inr}
 use Rattle.std.proofs.Math.Path.{fun_ext}
 use Rattle.std.proofs.lemmas.Bool.{cases_lt}
 use Rattle.std.proofs.lemmas.Bool.Decides.{nat_tests}
@@ -10,12 +10,7 @@ use Rattle.kernel_model.specs.Runs.{segment_of}
 use Rattle.kernel_state.specs.declared.Store.{Store}
 use Rattle.kernel_state.specs.Changes.{Changes}
 use Rattle.kernel_state.specs.Stores.{with_kept}
-
-range_long : (xs : List ℕ) (a n : ℕ) → a + n ≤ length xs → length (slice_range xs a (a + n)) ≡ n
-range_long xs a n inside =
-    let count : (a + n) - a ≡ n = omega arith in
-    let behind : n ≤ length (drop a xs) = omega (arith, length-drop a xs) in
-    ap (λ k. length (take k (drop a xs))) count ∙ length-take-le n (drop a xs) behind
+use Rattle.ram_space.proofs.Lists.{range_length}
 
 range_at : (xs : List ℕ) (a n i : ℕ) → a + n ≤ length xs →
     slice_index (slice_range xs a (a + n)) i ≡ cond (nat_lt i n) (slice_index xs (a + i)) 0
@@ -28,7 +23,7 @@ range_at xs a n i inside =
           ∙ sym (ap (λ b. cond b (slice_index xs (a + i)) 0) test)
       | inr past ↦
           let test : nat_lt i n ≡ false = grind (arith, nat_tests, past) in
-          let long = range_long xs a n inside in
+          let long = range_length xs a n inside in
           get_or_past (slice_range xs a (a + n)) i 0 (omega (arith, long, past))
           ∙ sym (ap (λ b. cond b (slice_index xs (a + i)) 0) test)
     ]

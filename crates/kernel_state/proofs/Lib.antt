@@ -4,7 +4,6 @@ pub mod Search
 pub mod Fits
 pub mod Opening
 pub mod Blocks
-pub mod Queues
 pub mod Rows
 pub mod Leaving
 pub mod Accessing

@@ -1,5 +1,5 @@
 -- The parameter of a chosen policy is in its range.
-use Rattle.std.proofs.Common.{◌≡◌, ℕ, zero, suc, ◌<◌, ◌≤◌, true, List, Option, Some, None, IfSome}
+use Rattle.std.proofs.Common.{◌≡◌, ℕ, ◌<◌, ◌≤◌, true, List, Option, Some, None, IfSome}
 use Rattle.std.proofs.Common.{option_map, slice_index, refl, arith, sym, subst, rules}
 use Rattle.std.proofs.lemmas.Bool.Decides.{nat_tests}
 use Rattle.kernel_model.specs.Access.{in_range, param_top}
@@ -8,20 +8,7 @@ use Rattle.kernel_model.specs.Sound.{ParamFits}
 use Rattle.kernel_model.specs.RawRows.{shown_param}
 use Rattle.graft_points.specs.Views.{PolicyView, top_of_code}
 use Rattle.graft_points.specs.Shelf.{IsShelf, code_of, is_policy, param_on, pol_of, view_at}
-
--- a code has the range of its policy
-top_is : (kind j : ℕ) → kind < 3 → j < policy_count kind → top_of_code (code_of kind j) ≡ param_top kind j
-top_is zero zero less few = refl
-top_is zero (suc zero) less few = refl
-top_is zero (suc (suc zero)) less few = refl
-top_is zero (suc (suc (suc j))) less few = absurd (omega (arith, few))
-top_is (suc zero) zero less few = refl
-top_is (suc zero) (suc zero) less few = refl
-top_is (suc zero) (suc (suc j)) less few = absurd (omega (arith, few))
-top_is (suc (suc zero)) zero less few = refl
-top_is (suc (suc zero)) (suc zero) less few = refl
-top_is (suc (suc zero)) (suc (suc j)) less few = absurd (omega (arith, few))
-top_is (suc (suc (suc kind))) j less few = absurd (omega (arith, less))
+use Rattle.graft_points.proofs.Chosen.{top_of_its_code}
 
 -- below the highest value, if there is one
 fits_of : (top : Option ℕ) (x : ℕ) → ((t : ℕ) → top ≡ Some t → x ≤ t) → ParamFits top x
@@ -34,7 +21,7 @@ param_fits views kind j h less few =
     let policy : is_policy kind j ≡ true = grind (arith, nat_tests) in
     let code : code_of kind j < 7 = grind (arith, nat_tests) in
     rw policy (subst (λ (top : Option ℕ). ParamFits top
-    (slice_index (view_at views (code_of kind j)).params 0)) (top_is kind j less few)
+    (slice_index (view_at views (code_of kind j)).params 0)) (top_of_its_code kind j less few)
     (fits_of (top_of_code (code_of kind j)) _ (h.each (code_of kind j) code).range))
 
 in_its_range : (top : Option ℕ) (x : ℕ) → ParamFits top x →

@@ -11,6 +11,7 @@ use Rattle.kernel_data.specs.declared.FrameRow.{FrameRow}
 use Rattle.kernel_model.specs.Needs.{frame_with, frame_of_block, free_frame}
 use Rattle.buffer_cache.specs.Frames.{Frames, row_at, in_use, holds, uses, IsFrames}
 use Rattle.kernel_state.specs.CacheViews.{frame_value, cache_value}
+use Rattle.buffer_cache.proofs.Finding.{holds-row}
 
 -- ---- the frame that holds a block
 
@@ -48,17 +49,12 @@ missing_in c m b (g ∷ order) none =
     ∙ ap (λ t. cond t (Some g) (frame_with (cache_value c m) b order)) (none g)
     ∙ missing_in c m b order none
 
--- a row that holds a block is there, and is of that block
-held_row : (b : ℕ) (o : Option FrameRow) → holds b o ≡ true → (r : FrameRow) × (o ≡ Some r) × (r.block ≡ b)
-held_row b None does = absurd (cc)
-held_row b (Some r) does = (r, refl, grind (arith, nat_tests))
-
 -- one frame alone holds a block
 one_holds : (c : Frames) (b f g : ℕ) → IsFrames c → holds b (row_at c.rows f) ≡ true →
     holds b (row_at c.rows g) ≡ true → g ≡ f
 one_holds c b f g h first second =
-    let x = held_row b (row_at c.rows f) first in
-    let y = held_row b (row_at c.rows g) second in h.one_frame g f y.0 x.0 y.1 x.1 (y.2 ∙ sym x.2)
+    let x = holds-row b (row_at c.rows f) first in
+    let y = holds-row b (row_at c.rows g) second in h.one_frame g f y.0 x.0 y.1 x.1 (y.2 ∙ sym x.2)
 
 -- a frame in use stands in the order of use
 stands : (c : Frames) (f : ℕ) → IsFrames c → in_use f c ≡ true → 1 ≤ uses f c.order

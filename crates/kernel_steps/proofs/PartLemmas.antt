@@ -29,10 +29,12 @@ use Rattle.running_kernel.specs.Views.{placed_of, flight_of, chain_of, levels_at
 use Rattle.running_kernel.specs.Views.{call_in_place, run_of, IsRunning, HasAbstraction}
 use Rattle.kernel_steps.proofs.EndLemmas.{micro_ends, drop_ends, drop_answer, drop_has_answer, same_inner}
 use Rattle.running_kernel.proofs.HinderLemmas.{some_levels}
-use Rattle.running_kernel.proofs.ViewLemmas.{as_many, config_in_place}
+use Rattle.running_kernel.proofs.ViewLemmas.{config_in_place}
 use Rattle.kernel_steps.proofs.StepLemmas.{EndsAs, alone_moved, done_as, ends_bare, moved_done}
 use Rattle.kernel_steps.proofs.StepLemmas.{none_of_bare, of_one, outcome_behind, owner_of}
 use Rattle.kernel_steps.proofs.StepLemmas.{same_place}
+use Rattle.graft_levels.proofs.Views.{level_count}
+use Rattle.running_kernel.proofs.PlainLemmas.{no_level}
 
 -- ---- a move to a config
 
@@ -224,7 +226,7 @@ pub levels_many : {C B M : Type 0} {P : _} (x : Running C B M P) (p : ℕ) →
     length (levels_at x p) ≡ length (chain_of x p).levels
 levels_many x p =
     bare_many (levels_of x.store x.locks (chain_of x p) p)
-    ∙ as_many p x.store.ram (held x.locks) (chain_of x p).levels (chain_of x p).undo (objects_of x.store).things
+    ∙ level_count p x.store.ram (held x.locks) (chain_of x p).levels (chain_of x p).undo (objects_of x.store).things
   where
     bare_many : (ls : List Level) → length (map bare ls) ≡ length ls
     bare_many [] = refl
@@ -262,11 +264,6 @@ at_call m x y p c kept kept_new d e is h =
     subst (λ o. StepDone (λ r. placed_call_step m p o r) p (kernel_moment x kept d)
     (kernel_moment y kept_new e)) (sym is) h
 
--- no element
-pub at_none : {A : Type 0} (xs : List A) → length xs ≡ 0 → xs ≡ []
-at_none [] h = refl
-at_none (x ∷ xs) h = absurd (omega (arith, h))
-
 -- a chain without levels has none in place
 pub none_at : {C B M : Type 0} {P : _} (x : Running C B M P) (p : ℕ) → (chain_of x p).levels ≡ [] → levels_at x p ≡ []
-none_at x p none = at_none (levels_at x p) (levels_many x p ∙ ap length none)
+none_at x p none = no_level (levels_at x p) (levels_many x p ∙ ap length none)

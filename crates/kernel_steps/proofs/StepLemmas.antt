@@ -45,12 +45,9 @@ use Rattle.kernel_steps.specs.Composing.{reaches_as, reaches_behind, reaches_pur
 use Rattle.running_kernel.specs.WholeBlocks.{some_blocks, blocks_are_whole}
 use Rattle.kernel_steps.proofs.FinishLemmas.{placed_finished, finish_did, finish_reaches}
 use Rattle.kernel_steps.proofs.MoveLemmas.{few_levels}
+use Rattle.running_kernel.proofs.PlainLemmas.{no_level}
 
 -- ---- a piece
-
-no_records : (log : List (List Logged)) → length log ≡ 0 → log ≡ []
-no_records [] h = refl
-no_records (is ∷ log) h = absurd (omega (arith, h))
 
 -- a chain without levels has no records
 pub none_in : {C B M : Type 0} {P : _} (x : Running C B M P) (p : ℕ) →
@@ -58,7 +55,7 @@ pub none_in : {C B M : Type 0} {P : _} (x : Running C B M P) (p : ℕ) →
     (chain_of x p).levels ≡ [] → chain_of x p ≡ no_chain
 none_in x p placed none =
     ap (λ gs. record { levels = gs; undo = (chain_of x p).undo }) none
-    ∙ ap (λ log. record { levels = []; undo = log }) (no_records (chain_of x p).undo (placed.as_many ∙ ap length none))
+    ∙ ap (λ log. record { levels = []; undo = log }) (no_level (chain_of x p).undo (placed.as_many ∙ ap length none))
 
 -- the call of another process
 other_call : (v w : Option InFlight) (p q : ℕ) → q ≢ p → cond (q == p) v w ≡ w

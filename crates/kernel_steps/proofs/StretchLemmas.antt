@@ -34,24 +34,13 @@ use Rattle.kernel_steps.proofs.MoveLemmas.{placed_moved}
 use Rattle.kernel_steps.proofs.PartLemmas.{levels_come}
 use Rattle.kernel_steps.proofs.StepLemmas.{of_one, owner_of}
 use Rattle.kernel_steps.proofs.WholeLemmas.{has_call, call_is}
-
--- levels are sound where the same processes live
-still_sound : (queue rows : List QueueRow) (gs : List GraftLevel) →
-    ((q : ℕ) → lives rows q ≡ lives queue q) → AreSound queue gs → AreSound rows gs
-still_sound queue rows [] living h = tt
-still_sound queue rows (g ∷ gs) living h =
-    (record { lives = living g.owner ∙ h.0.lives }, h.1, still_sound queue rows gs living h.2)
-
--- where there are levels in place there are some in the chain
-some_in : (p : ℕ) (ram : List ℕ) (t : LockTable) (gs : List GraftLevel) (log : List (List Logged))
-    (w : Things) → has_some (map bare (levels_in p ram t gs log w)) ≡ true → 0 < length gs
-some_in p ram t [] log w h = absurd cc
-some_in p ram t (g ∷ gs) log w h = omega arith
+use Rattle.graft_levels.proofs.Conditions.{still_sound}
+use Rattle.running_kernel.proofs.HinderLemmas.{some_levels_there}
 
 pub some_chain : {C B M : Type 0} {P : _} (x : Running C B M P) (p : ℕ) →
     has_some (levels_at x p) ≡ true → 0 < length (chain_of x p).levels
 some_chain x p h =
-    some_in p x.store.ram (held x.locks) (chain_of x p).levels (chain_of x p).undo
+    some_levels_there p x.store.ram (held x.locks) (chain_of x p).levels (chain_of x p).undo
     (objects_of x.store).things h
 
 -- the graft call of p went on, where the chain before was that of p, and so is the one after

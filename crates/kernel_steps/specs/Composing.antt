@@ -40,7 +40,7 @@ faults_same kept kept_new more adds none = let few = adds.faults in omega (arith
 -- ---- what a change did
 
 -- an event under way that came as said is this one
-run_is : (r : PlacedRun) (y : Placed) (kept : List Note) (known : Option (List (List ℕ)))
+pub run_is : (r : PlacedRun) (y : Placed) (kept : List Note) (known : Option (List (List ℕ)))
     (rest : List Bool) → RunMatches r y kept known rest → r ≡ run_of y r.blocks r.notes rest
 run_is r y kept known rest h =
     ap (λ z. record { placed = z; blocks = r.blocks; notes = r.notes; io = r.io }) h.placed

@@ -13,7 +13,9 @@ use text_words::append;
 /// What stands at the beginning of the page of all codes.
 const PAGE_HEAD: &str = "# The codes in words
 
-Every code and word by which the program refuses something or tells of a dropped graft, and its exit statuses: what it means, the usual cause, where it is described, and a file that shows it. `lab explain CODE` says the same of one; this page is what `lab explain --all` writes.
+Every code and word by which the program refuses something or tells of a dropped graft, and its \
+exit statuses: what it means, the usual cause, where it is described, and a file that shows it. \
+`lab explain CODE` says the same of one; this page is what `lab explain --all` writes.
 ";
 
 #[tactic(auto, unfolding(crate::specs::Rows::part))]

@@ -19,13 +19,16 @@ pub(crate) const SCRIPT: [Words; 6] = [
     Words {
         code: "S1",
         meaning: "another number of words, an empty word, or a kind that isn't listed",
-        cause: "A word is missing or one too many, two spaces stand together or one at the end, or `steps`, `records`, `locks` or the name of an object is misspelled.",
+        cause: "A word is missing or one too many, two spaces stand together or one at the end, or \
+            `steps`, `records`, `locks` or the name of an object is misspelled.",
         example: "examples/labs/script-words.lab",
     },
     Words {
         code: "S2",
         meaning: "a word is no number, hex or name as asked, or is out of its range",
-        cause: "Numbers are decimal digits, at most 4,294,967,295; hex digits are even in number; names have small letters; `frames` is 2 to 64 and `patience` 1 to 1,000. A line that ends with CR LF has a CR in its last word.",
+        cause: "Numbers are decimal digits, at most 4,294,967,295; hex digits are even in number; \
+            names have small letters; `frames` is 2 to 64 and `patience` 1 to 1,000. A line that \
+            ends with CR LF has a CR in its last word.",
         example: "examples/labs/script-numbers.lab",
     },
     Words {
@@ -37,7 +40,8 @@ pub(crate) const SCRIPT: [Words; 6] = [
     Words {
         code: "S4",
         meaning: "the line stands on the wrong side of `boot`",
-        cause: "`frames`, `patience` and `grant` stand before `boot`, which stands once; all else stands behind it.",
+        cause: "`frames`, `patience` and `grant` stand before `boot`, which stands once; all else \
+            stands behind it.",
         example: "examples/labs/script-place.lab",
     },
     Words {
@@ -64,7 +68,8 @@ pub(crate) const CALL: [Words; 18] = [
     Words {
         code: "E2",
         meaning: "the process has a call in flight",
-        cause: "That call waits or runs a graft. `step` takes the graft on, and `tick` ends a wait at last; then the process may call again.",
+        cause: "That call waits or runs a graft. `step` takes the graft on, and `tick` ends a wait \
+            at last; then the process may call again.",
         example: "examples/labs/busy.lab",
     },
     Words {
@@ -76,7 +81,8 @@ pub(crate) const CALL: [Words; 18] = [
     Words {
         code: "E4",
         meaning: "no such point, kind or policy",
-        cause: "Points are 0 to 15, kinds of policies 0 to 2. Kind 0 has the policies 0 to 2, the others 0 and 1.",
+        cause: "Points are 0 to 15, kinds of policies 0 to 2. Kind 0 has the policies 0 to 2, the \
+            others 0 and 1.",
         example: "examples/labs/policies.lab",
     },
     Words {
@@ -88,7 +94,8 @@ pub(crate) const CALL: [Words; 18] = [
     Words {
         code: "E6",
         meaning: "no such file",
-        cause: "The directory has no usable file of that name. The disk without a PATH has `alpha`, `beta` and `gamma`.",
+        cause: "The directory has no usable file of that name. The disk without a PATH has \
+            `alpha`, `beta` and `gamma`.",
         example: "examples/labs/files.lab",
     },
     Words {
@@ -100,7 +107,9 @@ pub(crate) const CALL: [Words; 18] = [
     Words {
         code: "E8",
         meaning: "a number is out of its range",
-        cause: "Cells are 0 to 3, ports 0 to 7, user locks 0 to 15, slots 0 to 31; a limit and the number of `step` are 1 to 65,536; offset and length together are at most 512, and block and bytes lie in the file; a parameter has the range of its policy.",
+        cause: "Cells are 0 to 3, ports 0 to 7, user locks 0 to 15, slots 0 to 31; a limit and the \
+            number of `step` are 1 to 65,536; offset and length together are at most 512, and \
+            block and bytes lie in the file; a parameter has the range of its policy.",
         example: "examples/labs/ranges.lab",
     },
     Words {
@@ -112,19 +121,22 @@ pub(crate) const CALL: [Words; 18] = [
     Words {
         code: "E10",
         meaning: "there is one already",
-        cause: "The slot has an image, which stays; or a graft stands at the point, and `remove` takes it out.",
+        cause: "The slot has an image, which stays; or a graft stands at the point, and `remove` \
+            takes it out.",
         example: "examples/labs/slots.lab",
     },
     Words {
         code: "E11",
         meaning: "no graft stands there",
-        cause: "It wasn't installed, it was removed, or it was dropped: a dropped graft is taken out.",
+        cause: "It wasn't installed, it was removed, or it was dropped: a dropped graft is taken \
+            out.",
         example: "examples/labs/slots.lab",
     },
     Words {
         code: "E12",
         meaning: "there is too little",
-        cause: "The process has less of this amount than is to go. The number behind the code is what it has.",
+        cause: "The process has less of this amount than is to go. The number behind the code is \
+            what it has.",
         example: "examples/labs/amounts.lab",
     },
     Words {
@@ -148,19 +160,22 @@ pub(crate) const CALL: [Words; 18] = [
     Words {
         code: "E16",
         meaning: "the disk failed",
-        cause: "The disk gave or took a block not whole. `0 E16` says that block 0 couldn't be read: the file at PATH can't be opened for reading and writing, or has no whole block.",
+        cause: "The disk gave or took a block not whole. `0 E16` says that block 0 couldn't be \
+            read: the file at PATH can't be opened for reading and writing, or has no whole block.",
         example: "examples/labs/disk-fails.lab",
     },
     Words {
         code: "E17",
         meaning: "it waited too long",
-        cause: "Another process held the user lock for as many ticks as a call waits for one: 10, unless `patience lock` says another number.",
+        cause: "Another process held the user lock for as many ticks as a call waits for one: 10, \
+            unless `patience lock` says another number.",
         example: "examples/labs/locks.lab",
     },
     Words {
         code: "E18",
         meaning: "eight handlers stand at the port",
-        cause: "Points 6 to 13 are those of the ports 0 to 7, and grafts of at most eight processes stand at one of them. `remove` makes room.",
+        cause: "Points 6 to 13 are those of the ports 0 to 7, and grafts of at most eight \
+            processes stand at one of them. `remove` makes room.",
         example: "examples/labs/port-full.lab",
     },
 ];
@@ -175,7 +190,8 @@ pub(crate) const DROP: [Words; 13] = [
     Words {
         code: "C2",
         meaning: "trapped",
-        cause: "It came to a `trap`, by which code ends itself. The number behind the code is the trap's.",
+        cause: "It came to a `trap`, by which code ends itself. The number behind the code is the \
+            trap's.",
         example: "examples/labs/trap.lab",
     },
     Words {
@@ -187,13 +203,15 @@ pub(crate) const DROP: [Words; 13] = [
     Words {
         code: "C4",
         meaning: "called with a bad argument",
-        cause: "r0, r1 or r2 is out of the range of what was called, or the descriptor isn't open. The number behind the code is the id.",
+        cause: "r0, r1 or r2 is out of the range of what was called, or the descriptor isn't open. \
+            The number behind the code is the id.",
         example: "examples/labs/bad-argument.lab",
     },
     Words {
         code: "C5",
         meaning: "asked for a frame of another owner",
-        cause: "`frame_block` and `frame_mark` take only frames of the graft's own process. `frame_at` gives them.",
+        cause: "`frame_block` and `frame_mark` take only frames of the graft's own process. \
+            `frame_at` gives them.",
         example: "examples/labs/frame-of-another.lab",
     },
     Words {
@@ -211,37 +229,46 @@ pub(crate) const DROP: [Words; 13] = [
     Words {
         code: "C8",
         meaning: "asked a graft that is running already",
-        cause: "The graft at the asked point is a level of the same call, perhaps the asking one itself.",
+        cause: "The graft at the asked point is a level of the same call, perhaps the asking one \
+            itself.",
         example: "examples/labs/asks-itself.lab",
     },
     Words {
         code: "C9",
         meaning: "had no step left",
-        cause: "It isn't billed (`bill`) and was given no steps (`fund`), its account is empty, or it took as many instructions as the limit of `install` says.",
+        cause: "It isn't billed (`bill`) and was given no steps (`fund`), its account is empty, or \
+            it took as many instructions as the limit of `install` says.",
         example: "examples/labs/limit.lab",
     },
     Words {
         code: "C10",
         meaning: "had no record left",
-        cause: "A call that changes something costs a record. It isn't billed and was given none, its account is empty, or its call has 64 already.",
+        cause: "A call that changes something costs a record. It isn't billed and was given none, \
+            its account is empty, or its call has 64 already.",
         example: "examples/labs/records.lab",
     },
     Words {
         code: "C11",
         meaning: "had no lock left",
-        cause: "`take_lock` costs a lock, unless its call holds that user lock already. It isn't billed and was given none, or its account is empty.",
+        cause: "`take_lock` costs a lock, unless its call holds that user lock already. It isn't \
+            billed and was given none, or its account is empty.",
         example: "examples/labs/no-locks.lab",
     },
     Words {
         code: "C12",
         meaning: "gave an answer that its point refuses",
-        cause: "r0 and r1 are not what the point accepts: too many blocks or past the file's end, a frame of another process, a process that isn't living, more than 512 bytes for an event, or another number of bytes than a stream handed in. The numbers behind the code are r0 and r1.",
+        cause: "r0 and r1 are not what the point accepts: too many blocks or past the file's end, \
+            a frame of another process, a process that isn't living, more than 512 bytes for an \
+            event, or another number of bytes than a stream handed in. The numbers behind the code \
+            are r0 and r1.",
         example: "examples/labs/bad-answer.lab",
     },
     Words {
         code: "C13",
         meaning: "was in the way for too long",
-        cause: "Another process waited for what it held for as many ticks as the patience says, 10 unless `patience` sets it; or it waited that long for a user lock. Behind the code stand the object and the other process.",
+        cause: "Another process waited for what it held for as many ticks as the patience says, 10 \
+            unless `patience` sets it; or it waited that long for a user lock. Behind the code \
+            stand the object and the other process.",
         example: "examples/labs/time-out.lab",
     },
 ];
@@ -250,13 +277,15 @@ pub(crate) const IMAGE: [Words; 13] = [
     Words {
         code: "L1",
         meaning: "it has too few bytes, or another length than its sizes say",
-        cause: "Hex was cut off, or a raw image stands where a sealed one is asked for: `box` makes one of the other.",
+        cause: "Hex was cut off, or a raw image stands where a sealed one is asked for: `box` \
+            makes one of the other.",
         example: "examples/labs/broken-images.lab",
     },
     Words {
         code: "L2",
         meaning: "its first four bytes are wrong",
-        cause: "A raw image begins with VGR0 and a sealed one with VGR1. One stands where the other is asked for.",
+        cause: "A raw image begins with VGR0 and a sealed one with VGR1. One stands where the \
+            other is asked for.",
         example: "examples/labs/broken-images.lab",
     },
     Words {
@@ -280,25 +309,29 @@ pub(crate) const IMAGE: [Words; 13] = [
     Words {
         code: "L6",
         meaning: "an instruction doesn't decode",
-        cause: "Its first byte is no operation, a register is above 15, or a field that the operation doesn't name isn't 0. The number behind the code is its place.",
+        cause: "Its first byte is no operation, a register is above 15, or a field that the \
+            operation doesn't name isn't 0. The number behind the code is its place.",
         example: "examples/labs/broken-images.lab",
     },
     Words {
         code: "L7",
         meaning: "r14 or r15 is named outside of an access to memory",
-        cause: "The code was sealed without being boxed. r14 and r15 belong to the sandbox. The number behind the code is the place.",
+        cause: "The code was sealed without being boxed. r14 and r15 belong to the sandbox. The \
+            number behind the code is the place.",
         example: "examples/labs/unboxed.lab",
     },
     Words {
         code: "L8",
         meaning: "a jump leaves the code, or goes into an access to memory",
-        cause: "The code was sealed without being boxed, or its targets were not moved with it. The number behind the code is the place.",
+        cause: "The code was sealed without being boxed, or its targets were not moved with it. \
+            The number behind the code is the place.",
         example: "examples/labs/forged.lab",
     },
     Words {
         code: "L9",
         meaning: "the address of an access to memory isn't masked",
-        cause: "The code was sealed without being boxed: `box` puts the two masking instructions before each access. The number behind the code is the place.",
+        cause: "The code was sealed without being boxed: `box` puts the two masking instructions \
+            before each access. The number behind the code is the place.",
         example: "examples/labs/forged.lab",
     },
     Words {
@@ -310,7 +343,8 @@ pub(crate) const IMAGE: [Words; 13] = [
     Words {
         code: "L11",
         meaning: "the last instruction isn't `ret`, `jmp` or `trap`",
-        cause: "Code may not run past its end, so the last instruction has to leave it; code without an instruction has none.",
+        cause: "Code may not run past its end, so the last instruction has to leave it; code \
+            without an instruction has none.",
         example: "examples/labs/unboxed.lab",
     },
     Words {
@@ -331,13 +365,17 @@ pub(crate) const ASSEMBLER: [Words; 6] = [
     Words {
         code: "A1",
         meaning: "the first word is no mnemonic",
-        cause: "It is misspelled or has a capital letter, the line begins with a space, or it is a label that isn't one: a small letter, then small letters, digits and `_`, at most 16, and a colon.",
+        cause: "It is misspelled or has a capital letter, the line begins with a space, or it is a \
+            label that isn't one: a small letter, then small letters, digits and `_`, at most 16, \
+            and a colon.",
         example: "cases/labs/unknown-instruction.lab",
     },
     Words {
         code: "A2",
         meaning: "the operands are too few, too many or of the wrong form",
-        cause: "Operands are parted by one space, with no comma and no remark behind them; registers are r0 to r15, numbers decimal and not negative, a target is a label or `@` and a number. A label stands alone on its line.",
+        cause: "Operands are parted by one space, with no comma and no remark behind them; \
+            registers are r0 to r15, numbers decimal and not negative, a target is a label or `@` \
+            and a number. A label stands alone on its line.",
         example: "cases/labs/comma.lab",
     },
     Words {
@@ -370,19 +408,22 @@ pub(crate) const LANGUAGE: [Words; 6] = [
     Words {
         code: "G1",
         meaning: "a word is no token",
-        cause: "Tokens are parted by spaces: `x = 1 ;` is four, `x=1;` is none. Names have small letters, digits and `_`, at most 16; numbers are decimal.",
+        cause: "Tokens are parted by spaces: `x = 1 ;` is four, `x=1;` is none. Names have small \
+            letters, digits and `_`, at most 16; numbers are decimal.",
         example: "cases/labs/language-token.lab",
     },
     Words {
         code: "G2",
         meaning: "no program goes on like this",
-        cause: "Each operation has its own parentheses, each block its braces, and each other statement ends with `;`. A call stands alone on the right of `=`.",
+        cause: "Each operation has its own parentheses, each block its braces, and each other \
+            statement ends with `;`. A call stands alone on the right of `=`.",
         example: "cases/labs/language-goes-on.lab",
     },
     Words {
         code: "G3",
         meaning: "the variable isn't known",
-        cause: "A variable is known from the end of its first assignment on. a0 to a3 are known from the beginning.",
+        cause: "A variable is known from the end of its first assignment on. a0 to a3 are known \
+            from the beginning.",
         example: "cases/labs/language-variable.lab",
     },
     Words {
@@ -394,7 +435,8 @@ pub(crate) const LANGUAGE: [Words; 6] = [
     Words {
         code: "G5",
         meaning: "there are more than 64 levels",
-        cause: "Braces and parentheses stand too deep in each other. An intermediate value in a variable helps.",
+        cause: "Braces and parentheses stand too deep in each other. An intermediate value in a \
+            variable helps.",
         example: "cases/labs/language-levels.lab",
     },
     Words {
@@ -409,13 +451,15 @@ pub(crate) const REWRITER: [Words; 5] = [
     Words {
         code: "Register",
         meaning: "an instruction names r14 or r15",
-        cause: "These two belong to the sandbox. Code has r0 to r13. The number behind the word is the place.",
+        cause: "These two belong to the sandbox. Code has r0 to r13. The number behind the word is \
+            the place.",
         example: "cases/labs/reserved-register.lab",
     },
     Words {
         code: "Jump",
         meaning: "an instruction jumps past the code",
-        cause: "A target is at most the number of the last instruction. The number behind the word is the place.",
+        cause: "A target is at most the number of the last instruction. The number behind the word \
+            is the place.",
         example: "cases/labs/jump-past-code.lab",
     },
     Words {
@@ -448,7 +492,8 @@ pub(crate) const INPUT: [Words; 3] = [
     Words {
         code: "input S2",
         meaning: "the input is no hex",
-        cause: "What stands before it in a pipe wrote a refusal, such as `asm 1 A2`, or nothing. The refusal that counts is that one.",
+        cause: "What stands before it in a pipe wrote a refusal, such as `asm 1 A2`, or nothing. \
+            The refusal that counts is that one.",
         example: "cases/box.case",
     },
     Words {

@@ -25,7 +25,7 @@ one_of h mode = go (conflicts (h 0) mode) (conflicts (h 1) mode) (conflicts (h 2
     go false false false true = refl
     go false false false false = refl
 
-four : {w x y z w' x' y' z' : Bool} → w ≡ w' → x ≡ x' → y ≡ y' → z ≡ z' → (w || x || y || z) ≡ (w' || x' || y' || z')
+pub four : {w x y z w' x' y' z' : Bool} → w ≡ w' → x ≡ x' → y ≡ y' → z ≡ z' → (w || x || y || z) ≡ (w' || x' || y' || z')
 four h i j k = cc
 
 -- two ways to hold together
@@ -99,13 +99,13 @@ touch_hinders g h d mode wanted lt is =
     by (suc (suc (suc (suc d)))) lt is = absurd (omega (arith, lt))
 
 -- what goes one level outward conflicts as before
-moved_1 : (a b c d : Bool) → ((b || a) || false || c || d) ≡ (a || b || c || d)
+pub moved_1 : (a b c d : Bool) → ((b || a) || false || c || d) ≡ (a || b || c || d)
 moved_1 a b c d = grind (arith, nat_tests)
 
-moved_2 : (a b c d : Bool) → (a || (c || b) || false || d) ≡ (a || b || c || d)
+pub moved_2 : (a b c d : Bool) → (a || (c || b) || false || d) ≡ (a || b || c || d)
 moved_2 a b c d = grind (arith, nat_tests)
 
-moved_3 : (a b c d : Bool) → (a || b || (d || c) || false) ≡ (a || b || c || d)
+pub moved_3 : (a b c d : Bool) → (a || b || (d || c) || false) ≡ (a || b || c || d)
 moved_3 a b c d = grind (arith, nat_tests)
 
 pub merge_hinders : (g h : ℕ → Held) (d : ℕ) (mode : Mode) → 0 < d → d < 4 →

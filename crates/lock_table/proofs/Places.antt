@@ -8,10 +8,10 @@ use Rattle.lock_table.specs.Masks.{masks_of, levels_at, holds_at, no_holds}
 use Rattle.lock_table.proofs.Used.{free_levels, no_holds-unused}
 
 -- a list of one thing alone
-get_or-alike : (n i : ℕ) (h : Holds) → get_or (replicate n h) i h ≡ h
-get_or-alike zero i h = refl
-get_or-alike (suc n) zero h = refl
-get_or-alike (suc n) (suc i) h = get_or-alike n i h
+pub get_or-alike : {X : Type 0} (n i : ℕ) (x : X) → get_or (replicate n x) i x ≡ x
+get_or-alike zero i x = refl
+get_or-alike (suc n) zero x = refl
+get_or-alike (suc n) (suc i) x = get_or-alike n i x
 
 pub alike : (n : ℕ) (xs : List Holds) → xs ≡ replicate n no_holds → (i : ℕ) → holds_at xs i ≡ no_holds
 alike n xs h i = rw h (get_or-alike n i no_holds)

@@ -1,6 +1,6 @@
 -- Lemmas on the masks of processes beside the masks of levels.
-use Rattle.std.proofs.Common.{◌≡◌, ◌≢◌, ℕ, zero, suc, ◌<◌, Bool, true, false, cond, not, ◌&&◌}
-use Rattle.std.proofs.Common.{◌||◌, ◌==◌, List, length, get_or, set, take, drop, ◌++◌, replicate}
+use Rattle.std.proofs.Common.{◌≡◌, ◌≢◌, ℕ, ◌<◌, Bool, true, false, cond, not, ◌&&◌}
+use Rattle.std.proofs.Common.{◌||◌, ◌==◌, List, length, set, take, drop, ◌++◌, replicate}
 use Rattle.std.proofs.Common.{find, is_some, refl, arith, ◌∙◌, sym, ap}
 use mathlib.Core.Path.{fun_ext}
 use Rattle.std.proofs.lemmas.Bool.Decides.{nat_tests}
@@ -18,12 +18,7 @@ use Rattle.lock_table.proofs.Hindering.{hinders, alike_hinder, free_hinder, touc
 use Rattle.lock_table.proofs.Views.{its_own, others, is_other_hindering}
 use Rattle.lock_table.proofs.HoldingLemmas.{same_level}
 use Rattle.lock_table.proofs.Places.{written}
-
--- a list of one thing alone
-get_or-alike : (n i : ℕ) (t : Takers) → get_or (replicate n t) i t ≡ t
-get_or-alike zero i t = refl
-get_or-alike (suc n) zero t = refl
-get_or-alike (suc n) (suc i) t = get_or-alike n i t
+use Rattle.lock_table.proofs.Places.{get_or-alike}
 
 pub alike : (n : ℕ) (xs : List Takers) → xs ≡ replicate n no_takers → (i : ℕ) → takers_at xs i ≡ no_takers
 alike n xs h i = rw h (get_or-alike n i no_takers)

@@ -8,6 +8,10 @@ use Rattle.kernel_model.specs.Objects.{at}
 use Rattle.lock_table.specs.declared.Holds.{Holds}
 use Rattle.lock_table.specs.Masks.{no_holds, held_by, is_used, merged, released}
 use Rattle.lock_table.proofs.MaskLemmas.{far, empty}
+use Rattle.lock_table.proofs.Hindering.{four}
+use Rattle.lock_table.proofs.Hindering.{moved_1}
+use Rattle.lock_table.proofs.Hindering.{moved_2}
+use Rattle.lock_table.proofs.Hindering.{moved_3}
 
 -- a level holds
 abbrev holding : Holds → ℕ → Bool
@@ -89,19 +93,6 @@ touch-used a b (suc (suc (suc zero))) mode lt h =
     fourth_of (holding b 0) (holding b 1) (holding b 2) (holding b 3)
     (ap is_held (h 3) ∙ touched_held (held_by a 3) mode)
 touch-used a b (suc (suc (suc (suc d)))) mode lt h = absurd (omega (arith, lt))
-
--- what goes one level outward is used as before
-moved_1 : (a b c d : Bool) → ((b || a) || false || c || d) ≡ (a || b || c || d)
-moved_1 a b c d = grind (arith, nat_tests)
-
-moved_2 : (a b c d : Bool) → (a || (c || b) || false || d) ≡ (a || b || c || d)
-moved_2 a b c d = grind (arith, nat_tests)
-
-moved_3 : (a b c d : Bool) → (a || b || (d || c) || false) ≡ (a || b || c || d)
-moved_3 a b c d = grind (arith, nat_tests)
-
-four : {w x y z w' x' y' z' : Bool} → w ≡ w' → x ≡ x' → y ≡ y' → z ≡ z' → (w || x || y || z) ≡ (w' || x' || y' || z')
-four h i j k = cc
 
 pub merge-used : (a b : Holds) (d : ℕ) → 0 < d → d < 4 →
     ((e : ℕ) → held_by b e ≡ merged d (held_by a) e) → is_used b ≡ is_used a

@@ -1,4 +1,4 @@
 pub mod Lists
 pub mod Pages
 pub mod TableLemmas
-mod Padded
+pub mod Padded

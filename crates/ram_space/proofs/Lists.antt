@@ -1,5 +1,5 @@
 -- Bytes that are put in place of others in a list.
-use Rattle.std.proofs.Common.{◌≡◌, ℕ, zero, suc, ◌+◌, ◌-◌, ◌<◌, ◌≤◌, ◌&&◌, Bool, true, false, List}
+use Rattle.std.proofs.Common.{◌≡◌, ℕ, ◌+◌, ◌-◌, ◌<◌, ◌≤◌, ◌&&◌, Bool, true, false, List}
 use Rattle.std.proofs.Common.{[], ◌∷◌, ◌++◌, length, take, drop, replicate, arith, sym, ◌∙◌, ap}
 use Rattle.std.specs.Cmp.Lexicographic.{pointwise}
 use Rattle.std.specs.Prelude.{nat_eq, slice_range, slice_set}
@@ -8,12 +8,8 @@ use Rattle.std.proofs.lemmas.List.{length-drop, drop-drop, drop-take, take-take,
 use Rattle.std.proofs.lemmas.List.{drop-append-le, take-append-drop, take_all, take-set, drop-set}
 use Rattle.ram_space.specs.Pages.{put, cleared}
 use Rattle.std.proofs.Math.Seq.{take-append-add, drop-append-add, take-add}
-
--- a range of the first bytes
-pub range_within : (xs ys : List ℕ) (a b : ℕ) → a ≤ b → b ≤ length xs → slice_range (xs ++ ys) a b ≡ slice_range xs a b
-range_within xs ys a b order inside =
-    ap (take (b - a)) (drop-append-le a xs ys (omega arith))
-    ∙ take-append-le (b - a) (drop a xs) ys (let e = length-drop a xs in omega (arith, e))
+use Rattle.ram_space.proofs.Padded.{more_alike}
+use Rattle.ram_space.proofs.Padded.{range_within}
 
 -- a range of the bytes behind the first
 pub range_behind : (xs ys : List ℕ) (k a b : ℕ) → length xs ≡ k →
@@ -148,13 +144,6 @@ put_twice a first second xs inside =
     (let e = length-append first second in omega (arith, e)) in d))
     ∙ sym (append_assoc front second (drop (a + length (first ++ second)) xs))
     ∙ ap (λ zs. zs ++ drop (a + length (first ++ second)) xs) (append_assoc (take a xs) first second)
-
--- so many, and more of the same
-pub more_alike : (m n x : ℕ) → replicate m x ++ replicate n x ≡ replicate (m + n) x
-more_alike zero n x = ap (λ k. replicate k x) (let e : n ≡ zero + n = omega arith in e)
-more_alike (suc m) n x =
-    ap (λ xs. x ∷ xs) (more_alike m n x)
-    ∙ ap (λ k. replicate k x) (let e : suc (m + n) ≡ suc m + n = omega arith in e)
 
 -- a range of all
 take_whole : (n : ℕ) (xs : List ℕ) → length xs ≡ n → slice_range xs 0 n ≡ xs

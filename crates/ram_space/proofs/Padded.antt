@@ -11,7 +11,7 @@ use Rattle.ram_space.specs.Tables.{bytes_if, table_of, padded, segments_of, AreS
 use Rattle.ram_space.proofs.TableLemmas.{table_length, table_at, table_unset, table_put, table_clear}
 
 -- so many, and more of the same
-more_alike : (m n x : ℕ) → replicate m x ++ replicate n x ≡ replicate (m + n) x
+pub more_alike : (m n x : ℕ) → replicate m x ++ replicate n x ≡ replicate (m + n) x
 more_alike zero n x = ap (λ k. replicate k x) (let e : n ≡ zero + n = omega arith in e)
 more_alike (suc m) n x =
     ap (λ xs. x ∷ xs) (more_alike m n x)
@@ -37,7 +37,7 @@ padded_length n xs room =
     ∙ (let e : length xs + (n - length xs) ≡ n = omega arith in e)
 
 -- a range within the first bytes
-range_within : (xs ys : List ℕ) (a b : ℕ) → a ≤ b → b ≤ length xs → slice_range (xs ++ ys) a b ≡ slice_range xs a b
+pub range_within : (xs ys : List ℕ) (a b : ℕ) → a ≤ b → b ≤ length xs → slice_range (xs ++ ys) a b ≡ slice_range xs a b
 range_within xs ys a b order inside =
     ap (take (b - a)) (drop-append-le a xs ys (omega arith))
     ∙ take-append-le (b - a) (drop a xs) ys (let e = length-drop a xs in omega (arith, e))

@@ -9,10 +9,12 @@ use Rattle.std.proofs.lemmas.List.{get_or-take, get_or-drop, get_or_append_left,
 use Rattle.std.proofs.lemmas.List.{get_or-set_other}
 use Rattle.ram_space.specs.Pages.{put, cleared, page_at, memory_of, given, ArePages, IsSpace, IsPart}
 use Rattle.ram_space.proofs.Lists.{alike_length, cleared_none, cleared_put, cleared_twice}
-use Rattle.ram_space.proofs.Lists.{has_parts, more_alike, put_behind, put_length, put_none}
+use Rattle.ram_space.proofs.Lists.{has_parts, put_behind, put_length, put_none}
 use Rattle.ram_space.proofs.Lists.{put_one, put_same, put_twice, put_within, range_around_put}
 use Rattle.ram_space.proofs.Lists.{range_before_put, range_behind, range_behind_put, range_length}
-use Rattle.ram_space.proofs.Lists.{range_of_alike, range_of_range, range_within}
+use Rattle.ram_space.proofs.Lists.{range_of_alike, range_of_range}
+use Rattle.ram_space.proofs.Padded.{more_alike}
+use Rattle.ram_space.proofs.Padded.{range_within}
 
 -- each page has its bytes
 abbrev AreThere : List ℕ → List ℕ → Type 0

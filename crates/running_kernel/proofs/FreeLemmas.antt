@@ -92,7 +92,8 @@ nobody_hinders t users p q [] free none = refl
 nobody_hinders t users p q (n ∷ ns) free none =
     nobody_hinders t users p q ns free (second (not n.by_user) (needs_no_user ns) none)
     ∙ sym (ap by_found (ap (hindrance_by users q n) (free n.object n.mode)
-    ∙ ap (λ b. cond b (user_hindrance q n.object (user_of users n.object)) None) (first n.by_user (needs_no_user ns) none)))
+    ∙ ap (λ b. cond b (user_hindrance q n.object (user_of users n.object)) None)
+    (first n.by_user (needs_no_user ns) none)))
   where
     by_found : Option Hindrance → Option Hindrance
     by_found (Some h) = Some h

@@ -116,7 +116,7 @@ flying None h = absurd cc
 flying (Some f) h = (f, refl)
 
 -- levels in place are levels of the chain
-some_levels_there : (p : ℕ) (ram : List ℕ) (t : LockTable)
+pub some_levels_there : (p : ℕ) (ram : List ℕ) (t : LockTable)
     (gs : List GraftLevel) (log : List (List Logged)) (w : Things) →
     has_some (map bare (levels_in p ram t gs log w)) ≡ true → 0 < length gs
 some_levels_there p ram t [] log w h = absurd cc

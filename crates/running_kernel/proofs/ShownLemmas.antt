@@ -25,7 +25,8 @@ use Rattle.running_kernel.specs.declared.running.Flight.{Flight}
 use Rattle.running_kernel.specs.declared.running.InFlight.{InFlight}
 use Rattle.running_kernel.specs.declared.running.Running.{Running}
 use Rattle.running_kernel.specs.Views.{placed_of, flight_of, chain_of, call_in_place, IsRunning}
-use Rattle.running_kernel.proofs.ViewLemmas.{as_many, levels_in_place}
+use Rattle.running_kernel.proofs.ViewLemmas.{levels_in_place}
+use Rattle.graft_levels.proofs.Views.{level_count}
 
 -- ---- lists
 
@@ -65,7 +66,7 @@ pub top_is : (p : ℕ) (ram : List ℕ) (t : LockTable) (gs : List GraftLevel) (
     top_of (levels_in p ram t gs log w) ≡ option_map (top_row_of (length gs)) (first_level gs)
 top_is p ram t [] log w = refl
 top_is p ram t (g ∷ gs) log w =
-    ap (λ n. Some (top_row_of (suc n) g)) (as_many p ram t gs (outer log) (put_back (innermost log) w))
+    ap (λ n. Some (top_row_of (suc n) g)) (level_count p ram t gs (outer log) (put_back (innermost log) w))
 
 -- there are as many rows
 pub level_rows_many : (p : ℕ) (ls : List Level) → length (rows_of_levels p ls) ≡ length ls
@@ -81,7 +82,7 @@ row_inwards p ram t [] log w i d g h n = absurd (cc)
 row_inwards p ram t (f ∷ gs) log w zero d g h n =
     let same : f ≡ g = cc in
     let depth : length (levels_in p ram t gs (outer log) (put_back (innermost log) w)) ≡ d =
-    as_many p ram t gs (outer log) (put_back (innermost log) w) ∙ omega (arith, n) in
+    level_count p ram t gs (outer log) (put_back (innermost log) w) ∙ omega (arith, n) in
     ap (λ k. Some (RawRow.Level p k f.owner f.point f.count)) depth
     ∙ ap (λ (e : GraftLevel). Some (RawRow.Level p d e.owner e.point e.count)) same
 row_inwards p ram t (f ∷ gs) log w (suc i) d g h n =
@@ -97,7 +98,7 @@ level_row_is p ram t out gs log w d g out_is small here =
     let many : length gs ≡ length out = ap length (sym out_is) ∙ length-reverse out in
     let i = length out - 1 - d in
     let all : length (rows_of_levels p (levels_in p ram t gs log w)) ≡ length gs =
-    level_rows_many p (levels_in p ram t gs log w) ∙ as_many p ram t gs log w in
+    level_rows_many p (levels_in p ram t gs log w) ∙ level_count p ram t gs log w in
     let inner : slice_get gs i ≡ Some g = ap (λ xs. slice_get xs i) (sym out_is)
     ∙ get_reversed out d i (omega (arith, small)) ∙ here in
     get_reversed (rows_of_levels p (levels_in p ram t gs log w)) i d (omega (arith, small, many, all))
@@ -180,7 +181,7 @@ levels_many x p =
     let ls = levels_of x.store x.locks (chain_of x p) p in
     ap (λ ks. length (reverse (rows_of_levels p ks))) (levels_in_place x p)
     ∙ length-reverse (rows_of_levels p ls) ∙ level_rows_many p ls
-    ∙ as_many p x.store.ram (held x.locks) (chain_of x p).levels (chain_of x p).undo (objects_of x.store).things
+    ∙ level_count p x.store.ram (held x.locks) (chain_of x p).levels (chain_of x p).undo (objects_of x.store).things
 
 -- the rows of its records
 pub records_in_place : {C B M : Type 0} {P : _} (x : Running C B M P) (p : ℕ) → p < 16 → IsRunning x →

@@ -23,6 +23,7 @@ use Rattle.running_kernel.specs.declared.running.Running.{Running}
 use Rattle.running_kernel.specs.Views.{placed_of, chain_of, IsRunning}
 use Rattle.std.proofs.lemmas.Bool.Decides.{nat_tests}
 use Rattle.placed_laws.specs.Placed.{bare, levels_with, placed_config, placed_levels, placed_holds}
+use Rattle.graft_levels.proofs.Views.{level_count}
 
 -- levels without what they found have found it again
 pub levels_again : (p : ℕ) (ram : List ℕ) (t : LockTable) (gs : List GraftLevel)
@@ -33,12 +34,6 @@ levels_again p ram t (g ∷ gs) log w =
     ap (λ ls. level_in p (length gs) ram t g (innermost log) (put_back (innermost log) w) ∷ ls)
     (levels_again p ram t gs (outer log) (put_back (innermost log) w))
 
--- there are as many
-pub as_many : (p : ℕ) (ram : List ℕ) (t : LockTable) (gs : List GraftLevel)
-    (log : List (List Logged)) (w : Things) → length (levels_in p ram t gs log w) ≡ length gs
-as_many p ram t [] log w = refl
-as_many p ram t (g ∷ gs) log w = ap suc (as_many p ram t gs (outer log) (put_back (innermost log) w))
-
 -- a level holds what the table says
 holds_below : (p d : ℕ) (ram : List ℕ) (t : LockTable) (gs : List GraftLevel)
     (log : List (List Logged)) (w : Things) → d < length gs →
@@ -48,7 +43,7 @@ holds_below p d ram t (g ∷ gs) log w h =
     grind (
       arith,
       nat_tests,
-      as_many p ram t gs (outer log) (put_back (innermost log) w),
+      level_count p ram t gs (outer log) (put_back (innermost log) w),
       holds_below p d ram t gs (outer log) (put_back (innermost log) w),
     )
 
@@ -61,7 +56,7 @@ holds_beyond p d ram t (g ∷ gs) log w h =
     grind (
       arith,
       nat_tests,
-      as_many p ram t gs (outer log) (put_back (innermost log) w),
+      level_count p ram t gs (outer log) (put_back (innermost log) w),
       holds_beyond p d ram t gs (outer log) (put_back (innermost log) w),
     )
 

@@ -1,12 +1,11 @@
 -- Lemmas on hex digits: the crate `hex` decodes them as the definitions do.
 use Rattle.std.proofs.Common.{◌≡◌, ◌∙◌, ◌&&◌, true, false, is_some, ℕ, ◌+◌, ◌*◌, ◌%◌, Option, Some}
-use Rattle.std.proofs.Common.{None, Result, Ok, Err, MatchResult, List, [], ◌∷◌, length, refl}
+use Rattle.std.proofs.Common.{None, Result, Ok, Err, List, [], ◌∷◌, length, refl}
 use Rattle.std.proofs.Common.{arith, ap}
-use Rattle.std.specs.Prelude.{is_ok}
 use Rattle.std.specs.Result.{result_ok}
 use Rattle.std.proofs.lemmas.Bool.Decides.{nat_tests}
 use Rattle.hex.specs.declared.error.FromHexError.{FromHexError}
-use Rattle.hex.specs.Hex.{hex_digit_value, digit_or_error, decode_pairs, decode_of, decode_sized, ◌>>=◌}
+use Rattle.hex.specs.Hex.{hex_digit_value, digit_or_error, decode_pairs, decode_of, ◌>>=◌}
 use Rattle.script_model.specs.Bytes.{hex_value, byte_before, hex_bytes}
 use Rattle.std.specs.List.{list_all}
 use Rattle.script_text.specs.Words.{is_hex_digit, bytes_or_none}

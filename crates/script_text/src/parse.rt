@@ -334,11 +334,6 @@ pub fn parse_line<'a>(
     ensures limits { SetsWithin (with_entry result entry.new) }
     ensures kept { OnErr result (entry.new ≡ entry.old) }
 {
-    match line_said(line, booted, bytes) {
-        Ok(said) => {
-            *entry = said;
-            Ok(())
-        }
-        Err(fault) => Err(fault),
-    }
+    *entry = line_said(line, booted, bytes)?;
+    Ok(())
 }

@@ -1,11 +1,8 @@
 -- Decimal digits and the numbers that they write.
-use Rattle.std.proofs.Common.{◌≡◌, ℕ, ◌+◌, ◌-◌, ◌*◌, ◌^◌, ◌<◌, ◌≤◌, true, List, length, take, get_or, refl, ap, arith}
+use Rattle.std.proofs.Common.{◌≡◌, ℕ, ◌+◌, ◌-◌, ◌*◌, ◌^◌, ◌<◌, ◌≤◌, true, List, length, take, refl, arith}
 use Rattle.std.proofs.Common.{length-take}
 use Rattle.std.specs.List.{list_all, fold}
 use Rattle.std.proofs.lemmas.Bool.Decides.{nat_tests}
-use Rattle.std.proofs.lemmas.List.{take_more}
-use Rattle.std.proofs.lemmas.List.Folds.{list_all_more}
-use Rattle.std.proofs.lemmas.List.Sums.{fold_push}
 use Rattle.std.proofs.lemmas.Str.Parse.{IsDigitsTest, IsNumeralModel, numerals_by_fold, digits_value_short}
 use Rattle.kernel_data.specs.Bytes.{is_digit, digits_value}
 
@@ -18,7 +15,7 @@ is_digits = record {
 }
 
 -- digits and their value, in std's words
-own : IsNumeralModel (λ ds. list_all is_digit ds ≡ true) digits_value
+pub own : IsNumeralModel (λ ds. list_all is_digit ds ≡ true) digits_value
 own =
     numerals_by_fold (λ ds. list_all is_digit ds ≡ true) is_digits (λ n ds. fold (λ a d. a * 10 + (d - 48)) n ds)
     (record { empty = λ n. refl; more = λ n c cs r. refl })

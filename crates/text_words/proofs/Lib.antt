@@ -1,3 +1,3 @@
 mod Splits
-mod Digits
+pub mod Digits
 mod Passing

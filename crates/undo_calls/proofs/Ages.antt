@@ -1,18 +1,18 @@
 -- The records in order of age, and the levels that own them.
-use Rattle.std.proofs.Common.{◌≡◌, ℕ, suc, ◌+◌, ◌-◌, ◌<◌, ◌≤◌, Bool, true, false, cond, List, []}
+use Rattle.std.proofs.Common.{◌≡◌, ℕ, suc, ◌-◌, ◌<◌, ◌≤◌, Bool, true, false, cond, List, []}
 use Rattle.std.proofs.Common.{◌∷◌, ◌++◌, length, map, reverse, take, drop, get_or, replicate, refl}
 use Rattle.std.proofs.Common.{arith, sym, ◌∙◌, ap, subst}
 use Rattle.std.specs.Prelude.{nat_le, min}
 use Rattle.std.proofs.lemmas.Bool.Decides.{nat_tests}
 use Rattle.std.proofs.lemmas.Grind.{reverse_onto}
 use Rattle.std.proofs.lemmas.List.{reverse-reverse, length-reverse, length-replicate, length-take}
-use Rattle.std.proofs.lemmas.List.{length-take-le, length-drop, map-append, take-append-drop}
-use Rattle.std.proofs.lemmas.List.{take_more, get_or-reverse, get_or_append_left}
+use Rattle.std.proofs.lemmas.List.{length-drop, map-append, take-append-drop}
+use Rattle.std.proofs.lemmas.List.{get_or-reverse, get_or_append_left}
 use Rattle.std.proofs.lemmas.List.{get_or-append_right, get_or-replicate, length-map}
-use Rattle.std.proofs.lemmas.List.{reverse-append}
 use Rattle.kernel_model.specs.UndoLog.{numbered_log}
 use Rattle.undo_calls.specs.UndoLevels.{cut, are_marks, levels_of, records_of, owners_of, owner_by, IsStack}
 use Rattle.undo_calls.proofs.Cuts.{within, outside, length-cut, length-log}
+use Rattle.undo_calls.proofs.Cuts.{test-at_most}
 
 map-reverse : {X Y : Type 0} (f : X → Y) (xs : List X) → map f (reverse xs) ≡ reverse (map f xs)
 map-reverse f [] = refl
@@ -87,9 +87,6 @@ least n m = grind (arith, nat_tests)
 
 length-inside : {A : Type 0} (m : ℕ) (rs : List A) → length (take (length rs - m) rs) ≡ length rs - m
 length-inside m rs = length-take (length rs - m) rs ∙ least (length rs) m
-
-test-at_most : (m i : ℕ) → nat_le m i ≡ true → m ≤ i
-test-at_most m i h = grind (arith, nat_tests)
 
 test-above : (m i : ℕ) → nat_le m i ≡ false → i < m
 test-above m i h = grind (arith, nat_tests)

@@ -13,7 +13,7 @@ use Rattle.undo_calls.specs.UndoLevels.{are_marks, levels_of, IsStack}
 
 -- ---- what marks say
 
-test-at_most : (m n : ℕ) → nat_le m n ≡ true → m ≤ n
+pub test-at_most : (m n : ℕ) → nat_le m n ≡ true → m ≤ n
 test-at_most m n h = grind (arith, nat_tests)
 
 at_most-test : (m n : ℕ) → m ≤ n → nat_le m n ≡ true
@@ -80,21 +80,12 @@ cut-merged m (l ∷ ms) rs some h =
 
 -- ---- marks and records, oldest first
 
--- marks with one more at the end
-reverse-more : (marks : List ℕ) (m : ℕ) → reverse (marks ++ m ∷ []) ≡ m ∷ reverse marks
-reverse-more marks m = reverse-append marks (m ∷ [])
+-- a list with one more at the end, newest first
+reverse-more : {A : Type 0} (xs : List A) (x : A) → reverse (xs ++ x ∷ []) ≡ x ∷ reverse xs
+reverse-more xs x = reverse-append xs (x ∷ [])
 
--- records with one more at the end
-reverse-more_records : {A : Type 0} (records : List A) (i : A) → reverse (records ++ i ∷ []) ≡ i ∷ reverse records
-reverse-more_records records i = reverse-append records (i ∷ [])
-
-length-more : {A : Type 0} (records : List A) (i : A) → length (records ++ i ∷ []) ≡ suc (length records)
-length-more records i =
-    length-append records (i ∷ [])
-    ∙ (let e : length records + 1 ≡ suc (length records) = omega arith in e)
-
-length-marks : (marks : List ℕ) (m : ℕ) → length (marks ++ m ∷ []) ≡ suc (length marks)
-length-marks marks m = length-append marks (m ∷ []) ∙ (let e : length marks + 1 ≡ suc (length marks) = omega arith in e)
+length-more : {A : Type 0} (xs : List A) (x : A) → length (xs ++ x ∷ []) ≡ suc (length xs)
+length-more xs x = length-append xs (x ∷ []) ∙ (let e : length xs + 1 ≡ suc (length xs) = omega arith in e)
 
 -- the marks of a stack, as its records newest first have them
 in_order-newest : {A : Type 0} (marks : List ℕ) (records : List A) → IsStack marks records →
@@ -113,7 +104,7 @@ length-levels marks records = length-cut (reverse marks) (reverse records) ∙ l
 pub levels-more : {A : Type 0} (marks : List ℕ) (records : List A) (i : A) → IsStack marks records →
     levels_of marks (records ++ i ∷ []) ≡ recorded i (levels_of marks records)
 levels-more marks records i h =
-    ap (cut (reverse marks)) (reverse-more_records records i)
+    ap (cut (reverse marks)) (reverse-more records i)
     ∙ cut-recorded (reverse marks) (reverse records) i (in_order-newest marks records h)
 
 pub stack-more : {A : Type 0} (marks : List ℕ) (records : List A) (i : A) → IsStack marks records →
@@ -138,7 +129,7 @@ levels-begun marks records n e =
 pub stack-begun : {A : Type 0} (marks : List ℕ) (records : List A) (n : ℕ) → length records ≡ n →
     IsStack marks records → length marks < 4 → IsStack (marks ++ n ∷ []) records
 stack-begun marks records n e h room =
-    let len = length-marks marks n in
+    let len = length-more marks n in
     record {
       in_order =
           subst (λ ms. are_marks ms (length records) ≡ true) (sym (reverse-more marks n))
@@ -173,12 +164,7 @@ pub without-recorded : {A : Type 0} (i : A) (log : List (List A)) → without_ne
 without-recorded i [] = refl
 without-recorded i (is ∷ log) = refl
 
--- the innermost level has no record where its mark is at their end
-pub levels-at_mark : {A : Type 0} (marks : List ℕ) (m : ℕ) (records : List A) → length records ≡ m →
-    levels_of (marks ++ m ∷ []) records ≡ [] ∷ levels_of marks records
-levels-at_mark marks m records e = levels-begun marks records m e
-
--- and there alone
+-- the innermost level has no record only where its mark is at their end
 pub empty-at_mark : {A : Type 0} (marks : List ℕ) (m : ℕ) (records : List A) →
     IsStack (marks ++ m ∷ []) records → innermost (levels_of (marks ++ m ∷ []) records) ≡ [] →
     length records ≡ m
@@ -192,7 +178,7 @@ empty-at_mark marks m records h e =
 pub stack-ended : {A : Type 0} (marks : List ℕ) (m : ℕ) (records : List A) →
     IsStack (marks ++ m ∷ []) records → length records ≡ m → IsStack marks records
 stack-ended marks m records h e =
-    let len = length-marks marks m in
+    let len = length-more marks m in
     let few = h.few_levels in
     record {
       in_order =
@@ -214,7 +200,7 @@ levels-merged marks m records h some =
 pub stack-merged : {A : Type 0} (marks : List ℕ) (m : ℕ) (records : List A) →
     IsStack (marks ++ m ∷ []) records → 0 < length marks → IsStack marks records
 stack-merged marks m records h some =
-    let len = length-marks marks m in
+    let len = length-more marks m in
     let few = h.few_levels in
     let back = length-reverse marks in
     let last = in_order-last marks m (length records) h.in_order in
@@ -245,7 +231,7 @@ ended old new m records log e h view none =
     let stack = subst (λ ms. IsStack ms records) e h in
     let seen : levels_of (new ++ m ∷ []) records ≡ log = ap (λ ms. levels_of ms records) (sym e) ∙ view in
     let here = empty-at_mark new m records stack (ap innermost seen ∙ none) in
-    (sym seen ∙ levels-at_mark new m records here, stack-ended new m records stack here)
+    (sym seen ∙ levels-begun new records m here, stack-ended new m records stack here)
 
 pub committed : {A : Type 0} (old new : List ℕ) (m : ℕ) (records : List A) (log : List (List A)) →
     old ≡ new ++ m ∷ [] → IsStack old records → levels_of old records ≡ log → 0 < length new →
@@ -267,7 +253,7 @@ pub newest-none :
     {A : Type 0} (marks init : List ℕ) (m : ℕ) (records : List A) (log : List (List A)) →
     marks ≡ init ++ m ∷ [] → length records ≡ m → levels_of marks records ≡ log → None ≡ newest log
 newest-none marks init m records log e here view =
-    ap newest (sym (levels-at_mark init m records here) ∙ ap (λ ms. levels_of ms records) (sym e) ∙ view)
+    ap newest (sym (levels-begun init records m here) ∙ ap (λ ms. levels_of ms records) (sym e) ∙ view)
 
 -- what stands where a record was taken out
 pub record Popped {A : Type 0} (marks : List ℕ) (new : List A) (x : A) (log : List (List A)) : Type 0 where
@@ -283,7 +269,7 @@ popped-seen init m new x log h other view =
     let stack = stack-popped init m new x h other in
     let more = sym view ∙ levels-more marks new x stack in
     let levels = length-levels marks new in
-    let len = length-marks init m in
+    let len = length-more init m in
     record {
       value = sym (newest-recorded x (levels_of marks new) (omega arith)) ∙ ap newest (sym more);
       rest = sym (without-recorded x (levels_of marks new)) ∙ ap without_newest (sym more);

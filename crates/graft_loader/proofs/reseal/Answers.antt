@@ -1,4 +1,4 @@
 use Rattle.graft_loader.proofs.reseal.Goals as goal
 
-pub returns-in-Ok-clause-ok : goal.returns-in-Ok-clause-ok
-returns-in-Ok-clause-ok c = rw c.in-Ok.ensures.ok c.sealed_again.ensures.ok
+pub returns-clause-ok : goal.returns-clause-ok
+returns-clause-ok c = rw c.in_ok-image.ensures.ok c.sealed_again.ensures.ok

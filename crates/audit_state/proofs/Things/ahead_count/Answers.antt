@@ -31,4 +31,10 @@ returns-else-chosen-eq1 c = λ bytes.
     let param = c.param-else-chosen-eq1.ensures bytes in
     let some = c.if-chosen-eq0.false in
     let more = c.if-chosen-eq1.false in
-    grind (arith, nat_tests, c.min-else-chosen-eq1.ensures, c.min-else-chosen-eq1-2.ensures, c.from-else-chosen-eq1.ensures)
+    grind (
+      arith,
+      nat_tests,
+      c.min-else-chosen-eq1.ensures,
+      c.min-else-chosen-eq1-2.ensures,
+      c.from-else-chosen-eq1.ensures,
+    )

@@ -23,7 +23,8 @@ returns-in-Victim c =
 
 pub returns-in-Next : goal.returns-in-Next
 returns-in-Next c =
-    let args = λ (bytes : ℕ → List ℕ). model.args_by model.Next (world_of c.args.world.now) (things_of bytes c.args.self.now) c.args.q c.args.pt in
+    let args = λ (bytes : ℕ → List ℕ). model.args_by model.Next (world_of c.args.world.now)
+    (things_of bytes c.args.self.now) c.args.q c.args.pt in
     point_is c.turn_args.result (world_of c.args.world.now)
     (λ (bytes : ℕ → List ℕ). things_of bytes c.args.self.now) c.args.q c.args.pt c.args.kind Next
     c.in-Next.is (rows_is c.turn_args.result (args (λ f. [])) c.turn_args.ensures)

@@ -1,8 +1,8 @@
 -- The library decodes digits as the definitions do.
 use Rattle.std.proofs.Common.{arith}
 use Rattle.std.proofs.lemmas.Bool.Decides.{nat_tests}
-use Rattle.commands.proofs.Decoding.{decode_of-ok}
 use Rattle.commands.proofs.hex_line.decoded.Goals as goal
+use Rattle.script_text.proofs.Decoding.{decode_of-ok}
 
 pub returns-in-Ok : goal.returns-in-Ok
 returns-in-Ok c = grind (arith, nat_tests, c.in-Ok.ensures.ok, decode_of-ok c.args.digits.now)

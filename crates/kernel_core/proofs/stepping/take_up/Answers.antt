@@ -8,11 +8,12 @@ use Rattle.kernel_steps.specs.Composing.{did_nothing, did_then}
 use Rattle.placed_laws.proofs.Laws.{same_shown, others_stand, steps_stand, resting}
 use Rattle.kernel_core.specs.EventParts.{taken_up}
 use Rattle.running_kernel.specs.Views.{placed_of}
-use Rattle.kernel_core.proofs.RestLemmas.{called, did_to_rest, rested_joined, rested_same, rested_stepped, rested_still}
+use Rattle.kernel_core.proofs.RestLemmas.{did_to_rest, rested_joined, rested_same, rested_stepped, rested_still}
 use Rattle.kernel_core.proofs.StepLemmas.{blocker_told, can_step, no_blocker_told, not_first}
 use Rattle.kernel_core.proofs.StepLemmas.{not_second, some_is, taken_by, taken_none}
-use Rattle.kernel_core.proofs.WentLemmas.{levels_called}
 use Rattle.kernel_core.proofs.stepping.take_up.Goals as goal
+use Rattle.kernel_steps.proofs.WholeLemmas.{call_is}
+use Rattle.kernel_steps.proofs.WholeLemmas.{has_call}
 
 pub returns-then-not-in_graft-clause-went : goal.returns-then-not-in_graft-clause-went
 returns-then-not-in_graft-clause-went g c =
@@ -103,8 +104,8 @@ returns-then-step_in_graft-clause-went g c =
     ∙ c.if-not-in_graft.false) (sym c.waits.ensures ∙ c.if-waits.false) in
     let none = no_blocker_told c.blocked_by.result (placed_blocker m (placed_of a.running.now) a.p)
     c.blocked_by.ensures (sym c.is_some.ensures ∙ c.if-is_some.false) in
-    let call = called ((placed_of a.running.now).call a.p)
-    (levels_called m (same_shown m g.C.Meaning.Rules.laws) (placed_of a.running.now) a.p
+    let call = call_is ((placed_of a.running.now).call a.p)
+    (has_call m (same_shown m g.C.Meaning.Rules.laws) (placed_of a.running.now) a.p
     c.requires.abstraction (sym c.in_graft.ensures ∙ c.if-not-in_graft.false)) in
     let s = c.step_in_graft.ensures.went in
     record {
@@ -130,8 +131,8 @@ returns-clause-went g c =
     ∙ c.if-not-in_graft.false) (sym c.waits.ensures ∙ c.if-waits.false) in
     let none = no_blocker_told c.blocked_by.result (placed_blocker m (placed_of a.running.now) a.p)
     c.blocked_by.ensures (sym c.is_some.ensures ∙ c.if-is_some.false) in
-    let call = called ((placed_of a.running.now).call a.p)
-    (levels_called m (same_shown m g.C.Meaning.Rules.laws) (placed_of a.running.now) a.p
+    let call = call_is ((placed_of a.running.now).call a.p)
+    (has_call m (same_shown m g.C.Meaning.Rules.laws) (placed_of a.running.now) a.p
     c.requires.abstraction (sym c.in_graft.ensures ∙ c.if-not-in_graft.false)) in
     let s = c.step_in_graft.ensures.went in
     let w = c.settle_all-2.ensures in
@@ -162,5 +163,5 @@ returns-clause-went g c =
 pub instruction_needs-needs-requires-clause-call : goal.instruction_needs-needs-requires-clause-call
 instruction_needs-needs-requires-clause-call g c =
     let m = g.C.Meaning.Rules.meaning in
-    levels_called m (same_shown m g.C.Meaning.Rules.laws) (placed_of c.args.running.now) c.args.p
+    has_call m (same_shown m g.C.Meaning.Rules.laws) (placed_of c.args.running.now) c.args.p
     c.requires.abstraction (sym c.in_graft.ensures ∙ c.if-not-in_graft.false)

@@ -8,10 +8,11 @@ use Rattle.kernel_steps.specs.Composing.{did_then}
 use Rattle.placed_laws.proofs.Laws.{same_shown, others_stand, steps_stand, resting}
 use Rattle.kernel_core.specs.EventParts.{taken_up}
 use Rattle.running_kernel.specs.Views.{placed_of}
-use Rattle.kernel_core.proofs.RestLemmas.{called, did_to_rest, rested_joined, rested_stepped}
+use Rattle.kernel_core.proofs.RestLemmas.{did_to_rest, rested_joined, rested_stepped}
 use Rattle.kernel_core.proofs.StepLemmas.{blocker_told, can_step, no_blocker_told, some_is, taken_by}
-use Rattle.kernel_core.proofs.WentLemmas.{levels_called}
 use Rattle.kernel_core.proofs.stepping.take_up_first.Goals as goal
+use Rattle.kernel_steps.proofs.WholeLemmas.{call_is}
+use Rattle.kernel_steps.proofs.WholeLemmas.{has_call}
 
 pub returns-then-is_some-clause-went : goal.returns-then-is_some-clause-went
 returns-then-is_some-clause-went g c =
@@ -56,8 +57,8 @@ returns-clause-went g c =
     (in_order a.p (placed_of a.running.now).order) c.requires.level c.requires.away in
     let none = no_blocker_told c.blocker.result (placed_blocker m (placed_of a.running.now) a.p)
     c.blocker.ensures (sym c.is_some.ensures ∙ c.if-is_some.false) in
-    let call = called ((placed_of a.running.now).call a.p)
-    (levels_called m (same_shown m g.C.Meaning.Rules.laws) (placed_of a.running.now) a.p
+    let call = call_is ((placed_of a.running.now).call a.p)
+    (has_call m (same_shown m g.C.Meaning.Rules.laws) (placed_of a.running.now) a.p
     c.requires.at.abstraction c.requires.level) in
     let s = c.step.ensures in
     let w = c.settle_all-2.ensures in

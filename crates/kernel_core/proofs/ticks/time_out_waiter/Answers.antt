@@ -6,9 +6,10 @@ use Rattle.placed_laws.specs.PlacedSteps.{placed_drop, placed_noted, placed_requ
 use Rattle.placed_laws.specs.PlacedEvents.{placed_waiter}
 use Rattle.running_kernel.specs.Orders.{blocker_of}
 use Rattle.running_kernel.specs.Views.{placed_of}
-use Rattle.kernel_core.proofs.TickLemmas.{no_level, waiter_drops, waiter_ends, waiter_none}
+use Rattle.kernel_core.proofs.TickLemmas.{waiter_drops, waiter_ends, waiter_none}
 use Rattle.kernel_core.proofs.WentLemmas.{went_as, went_nothing}
 use Rattle.kernel_core.proofs.ticks.time_out_waiter.Goals as goal
+use Rattle.running_kernel.proofs.PlainLemmas.{no_level}
 
 pub returns-in_default : goal.returns-in_default
 returns-in_default g c =

@@ -2,7 +2,7 @@ use Rattle.std.proofs.Common.{◌∙◌, ap, refl}
 use Rattle.kernel_data.specs.Policies.{lives}
 use Rattle.process_table.specs.Processes.{Processes}
 use Rattle.kernel_state.specs.Stores.{world_of_store}
-use Rattle.kernel_state.proofs.Queues.{lives_slice}
+use Rattle.process_table.proofs.Rows.{living-slice}
 use Rattle.kernel_state.proofs.Fits.{fits_same, stands_by}
 use Rattle.kernel_state.proofs.Store.add_slice.Goals as goal
 
@@ -12,7 +12,7 @@ returns g c =
     record {
       objects = stands_by s c.add_slice.new.self _ c.add_slice.ensures;
       queue = ap (λ (x : Processes). x.queue) c.add_slice.ensures;
-      living = λ q. ap (λ (x : Processes). lives x.queue q) c.add_slice.ensures ∙ lives_slice c.args.p q s.procs.queue;
+      living = λ q. ap (λ (x : Processes). lives x.queue q) c.add_slice.ensures ∙ living-slice q c.args.p s.procs.queue;
       views = refl;
       world = refl;
       memory = refl;

@@ -2,7 +2,7 @@ use Rattle.std.proofs.Common.{◌∙◌, ap, refl}
 use Rattle.kernel_data.specs.Policies.{lives}
 use Rattle.process_table.specs.Processes.{Processes}
 use Rattle.kernel_state.specs.Stores.{world_of_store}
-use Rattle.kernel_state.proofs.Queues.{lives_back}
+use Rattle.process_table.proofs.Rows.{living-to_back}
 use Rattle.kernel_state.proofs.Fits.{fits_same, stands_by}
 use Rattle.kernel_state.proofs.Store.to_back.Goals as goal
 
@@ -12,7 +12,7 @@ returns g c =
     record {
       objects = stands_by s c.to_back.new.self _ c.to_back.ensures;
       queue = ap (λ (x : Processes). x.queue) c.to_back.ensures;
-      living = λ q. ap (λ (x : Processes). lives x.queue q) c.to_back.ensures ∙ lives_back c.args.p q s.procs.queue;
+      living = λ q. ap (λ (x : Processes). lives x.queue q) c.to_back.ensures ∙ living-to_back q c.args.p s.procs.queue;
       views = refl;
       world = refl;
       memory = refl;

@@ -2,15 +2,16 @@ use Rattle.std.proofs.Common.{◌≡◌, ◌<◌, ◌∙◌, length, ap, sym, ar
 use Rattle.std.proofs.lemmas.Bool.Decides.{nat_tests}
 use Rattle.running_kernel.specs.declared.running.Flight.{Flight}
 use Rattle.running_kernel.specs.Views.{flight_of, call_at}
-use Rattle.kernel_steps.proofs.PartLemmas.{at_call, at_graft, at_none}
+use Rattle.kernel_steps.proofs.PartLemmas.{at_call, at_graft}
 use Rattle.kernel_steps.proofs.WholeLemmas.{call_is}
 use Rattle.kernel_steps.proofs.steps.step_call.Goals as goal
+use Rattle.running_kernel.proofs.PlainLemmas.{no_level}
 
 pub piece_step-requires-clause-none : goal.piece_step-requires-clause-none
 piece_step-requires-clause-none g c =
     let fl : c.flight.result.now ≡ flight_of c.args.running.now.calls.items c.args.p =
     c.flight.ensures ∙ ap (λ fs. flight_of fs c.args.p) c.deref.ensures.value in
-    at_none (flight_of c.args.running.now.calls.items c.args.p).chain.levels
+    no_level (flight_of c.args.running.now.calls.items c.args.p).chain.levels
     (sym (ap (λ (f : Flight). length f.chain.levels) fl) ∙ sym c.count.ensures.value
     ∙ c.if-count-eq0.true)
 

@@ -1,4 +1,4 @@
-use Rattle.std.proofs.Common.{◌≡◌, ◌∙◌, ℕ, None, slice_index_or, sym, ap}
+use Rattle.std.proofs.Common.{◌∙◌, None, slice_index_or, sym, ap}
 use Rattle.graft_accounts.specs.Table.{Table}
 use Rattle.graft_accounts.proofs.Empty.{none_seen}
 use Rattle.graft_accounts.proofs.accounts.Accounts.any_stands.Goals as goal

@@ -1,4 +1,4 @@
-use Rattle.std.proofs.Common.{◌≡◌, ◌∙◌, ℕ, None, count_by, is_some, slice_index_or, sym, ap}
+use Rattle.std.proofs.Common.{◌∙◌, None, slice_index_or, sym, ap}
 use Rattle.graft_accounts.proofs.Empty.{none_counted, none_stands, not_zero, zero_by}
 use Rattle.graft_accounts.proofs.rows.Standings.any.Goals as goal
 
