@@ -1,0 +1,3 @@
+pub mod NeedLists
+pub mod Searching
+pub mod OtherCalls

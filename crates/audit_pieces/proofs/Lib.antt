@@ -1,0 +1,5 @@
+pub mod Storing
+pub mod Fetching
+pub mod Sampling
+pub mod Searching
+pub mod Syncing

@@ -1,0 +1,9 @@
+use Rattle.std.proofs.Common.{refl}
+use Rattle.audit_pieces.specs.Stores.{objects_of, blocks_of}
+use Rattle.audit_pieces.proofs.Store.bill.Goals as goal
+
+pub returns : goal.returns
+unfolding objects_of blocks_of
+returns c =
+    let new = c.in_ok-bill.ensures in
+    record { objects = cc; blocks = refl }

@@ -1,0 +1,10 @@
+use Rattle.std.proofs.Common.{refl}
+use Rattle.audit_pieces.specs.Stores.{objects_of, blocks_of, page_of}
+use Rattle.audit_pieces.proofs.Store.leave.Goals as goal
+
+pub returns : goal.returns
+unfolding objects_of blocks_of
+returns c =
+    let new = c.leave.ensures (page_of c.args.self.now) in
+    let accounts = c.in_ok-close.ensures in
+    record { objects = cc; blocks = refl }

@@ -1,0 +1,32 @@
+use Rattle.std.proofs.Common.{◌≡◌, ℕ, List, None, refl, ap, ◌∙◌}
+use Rattle.kernel_model.specs.Fetch.{bytes_with}
+use Rattle.kernel_model.specs.Objects as model
+use Rattle.kernel_model.specs.Objects.{at}
+use Rattle.audit_table.specs.Tables.{column_of}
+use Rattle.audit_state.specs.Accounts.{accounts_of}
+use Rattle.audit_state.specs.Things.{things_of}
+use Rattle.audit_pieces.specs.Stores.{objects_of, blocks_of, page_of}
+use Rattle.audit_pieces.proofs.Storing.{page_changed}
+use Rattle.audit_pieces.proofs.Store.patch.Goals as goal
+
+pub returns : goal.returns
+unfolding objects_of blocks_of
+returns c =
+    let s = c.args.self.now in
+    let f = c.args.f in
+    let put = c.args.put.now in
+    let accounts = accounts_of s.accounts in
+    let bytes : c.in_ok-bytes.bytes.items ≡ bytes_with c.args.offset put (page_of s f) =
+    c.in_ok-bytes.ensures ∙ ap (bytes_with c.args.offset put) c.page.ensures in
+    let pages =
+    page_changed (column_of None c.put_one.new.rows.items) (column_of None s.pages.items) f
+    c.in_ok-bytes.bytes (c.in_ok-put_one.ensures None)
+    ∙ ap (λ (xs : List ℕ). at f xs (page_of s)) bytes in
+    record {
+      objects =
+          ap (λ (p : ℕ → List ℕ). record { accounts = accounts; things = things_of p c.patch.new.self })
+          pages
+          ∙ ap (λ (w : model.Things). record { accounts = accounts; things = w })
+          (c.in_ok-patch.ensures (page_of s) c.args.offset put);
+      blocks = refl;
+    }
