@@ -1,0 +1,9 @@
+pub mod Touching
+pub mod Joining
+pub mod Segments
+pub mod Going
+pub mod Calls
+pub mod Outermost
+pub mod Dropping
+pub mod Descending
+pub mod Innermost

@@ -1,0 +1,5 @@
+pub mod Going
+pub mod Lengthening
+pub mod Stepping
+pub mod Falling
+pub mod Outer
