@@ -54,7 +54,8 @@ enum {
     VINO_NO_STEPS = 9,      /* it took as many instructions as the limit says */
     VINO_NO_RECORDS = 10,   /* it made 64 records; detail: the id that it called then */
     VINO_BAD_ANSWER = 12,   /* its point doesn't take its answer; detail: r0 */
-    VINO_BUSY = 16,         /* a word that it wanted belongs to another call; detail: the id that it called */
+    VINO_BUSY = 16,         /* another call changed the word that it wanted, or read the one that it wanted to change;
+                             * detail: the id that it called */
     VINO_BROKEN = 17,       /* it ran past its code: the struct isn't what vino_load wrote */
     VINO_WAITING = 32,      /* it called an id of the host, 2 to 15, and waits; detail: the id; r0 to r3: its arguments */
     VINO_MISUSED = 33       /* nothing was done: see the function */
@@ -86,17 +87,20 @@ typedef struct {
 } vino_keys;
 
 /* A word of the host's table. Plug-ins read value k with `call 0` (r0 = k), and change it with `call 1`
- * (r0 = k, r1 = the new value); both give what it was in r0. `owner` is 0 where the word belongs to no
- * call. A word that a call touched belongs to it until it ends; to other calls it is VINO_BUSY. The
- * host begins with owner 0 everywhere, and changes only words whose owner is 0. */
+ * (r0 = k, r1 = the new value); both give what it was in r0. A word that a call changed belongs to it
+ * until it ends: `owner` is its number, else 0. `readers` says how many calls read it that haven't
+ * ended; until then no other call may change it. A call that is refused a word so ends as VINO_BUSY.
+ * The host begins with owner and readers 0 everywhere, and changes only words where both are 0. */
 typedef struct {
     uint32_t value;
     uint32_t owner;
+    uint32_t readers;
 } vino_word;
 
 typedef struct {
     uint32_t place;
-    vino_word before;
+    uint32_t id; /* 1: it was changed; else it was read for the first time */
+    uint32_t value, owner; /* as the call found it */
 } vino_record;
 
 typedef struct {

@@ -80,7 +80,12 @@ static vino_word *table;
 
 /* The table as it would be without the changes of a call that waits. */
 static void without(vino_word *words, const vino_call *call) {
-    for (uint32_t i = call->log.count; i-- > 0;) words[call->log.records[i].place] = call->log.records[i].before;
+    for (uint32_t i = call->log.count; i-- > 0;) {
+        const vino_record *r = &call->log.records[i];
+        words[r->place].value = r->value;
+        words[r->place].owner = r->owner;
+        if (r->id != 1) words[r->place].readers--;
+    }
 }
 
 static unsigned long kinds[64];
@@ -118,7 +123,7 @@ int main(int count, char **words) {
     unsigned byte;
     char path[512];
     table = guarded(WORDS * sizeof *table);
-    for (int i = 0; i < WORDS; i++) table[i] = (vino_word){draw(0xffffffff), 0};
+    for (int i = 0; i < WORDS; i++) table[i] = (vino_word){draw(0xffffffff), 0, 0};
     for (int i = 0; i < CALLS; i++) {
         lives[i] = (struct live){.plugin = guarded(sizeof(vino_plugin)), .call = guarded(sizeof(vino_call)), .segment = guarded(VINO_SEGMENT)};
         scramble(lives[i].call, sizeof(vino_call));

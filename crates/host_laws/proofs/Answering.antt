@@ -1,6 +1,6 @@
 -- What came of a call of a plug-in, as an answer of a list.
-use Rattle.std.proofs.Common.{◌≡◌, ℕ, ◌≤◌, Bool, true, false, cond, not, List, [], ◌∷◌, ◌++◌, length, Option, None, Some, refl, sym, ap, ◌∙◌, arith}
-use Rattle.std.specs.Prelude.{◌==◌, ◌&&◌, nat_le, slice_get, slice_set}
+use Rattle.std.proofs.Common.{◌≡◌, ℕ, ◌≤◌, Bool, true, false, cond, not, List, [], ◌∷◌, ◌++◌, Option, None, Some, refl, sym, ap, ◌∙◌, arith}
+use Rattle.std.specs.Prelude.{◌==◌, nat_le, slice_get, slice_set}
 use Rattle.std.proofs.lemmas.Bool.{leb-true, ne_eqb}
 use Rattle.graft_code.specs.Objects.{at}
 use Rattle.graft_code.specs.Machine.{Machine}
@@ -11,7 +11,7 @@ use Rattle.vino_host.specs.declared.Stop.TheVariants as stop
 use Rattle.vino_host.specs.declared.Word.{Word}
 use Rattle.vino_host.specs.Codes.{BUSY, NO_RECORDS, BAD_ARGUMENT, NOT_CALLABLE}
 use Rattle.vino_host.specs.HostRuns.{State, state, Answered, Goes, Stops, after_word, answered, with_r0}
-use Rattle.vino_host.specs.Tables.{Serves, Gives, Refuses, is_open_to, owned, record_of, serves_word, serves}
+use Rattle.vino_host.specs.Tables.{Serves, Gives, Refuses, may_serve, is_held, is_full, taken, record_of, serves_word, serves}
 use Rattle.host_laws.specs.RawAnswers.{halt_by, halt_of}
 
 refused_by : (number id k v : ℕ) (table : List Word) (records : List Record) (cause detail : ℕ) →
@@ -24,7 +24,7 @@ refused_by number id k v table records cause detail h = by_word (slice_get table
     by_tests : (a b c : Bool) (w : Word) →
         cond (not a) (Refuses BUSY) (cond b (Gives w.value table records)
         (cond c (Refuses NO_RECORDS)
-        (Gives w.value (slice_set table k (owned number id v w)) (records ++ record_of k w ∷ []))))
+        (Gives w.value (slice_set table k (taken number id v w)) (records ++ record_of id k w ∷ []))))
         ≡ Refuses cause → halt_by cause detail ≡ Some (Unanswered detail)
     by_tests false b c w h = let same : 16 ≡ cause = cc in as_cause 16 same refl
     by_tests true true c w h = cc
@@ -35,7 +35,7 @@ refused_by number id k v table records cause detail h = by_word (slice_get table
         elim o [ None ↦ Refuses BAD_ARGUMENT | Some w ↦ serves_word number id k v table records w ] ≡ Refuses cause →
         halt_by cause detail ≡ Some (Unanswered detail)
     by_word None h = let same : 4 ≡ cause = cc in as_cause 4 same refl
-    by_word (Some w) h = by_tests (is_open_to number w) (id == 0 && w.owner == number) (nat_le 64 (length records)) w h
+    by_word (Some w) h = by_tests (may_serve number id k records w) (is_held number id k records w) (is_full records w) w h
 
 -- what came of a call is an answer, or the end of the run at the call
 pub record IsAnswered (id : ℕ) (s : State) (a : Answered) : Type 0 where

@@ -2,4 +2,12 @@ pub mod Masked
 pub mod Answering
 pub mod RawRuns
 pub mod Others
+pub mod Readings
+pub mod Touching
+pub mod Holding
+pub mod Waiting
+pub mod Slicing
+pub mod Interleaving
+pub mod OneAtATime
 pub mod Aloneness
+pub mod Sound

@@ -1,5 +1,5 @@
 -- An instruction of a plug-in is one with each address masked.
-use Rattle.std.proofs.Common.{◌≡◌, ℕ, ◌+◌, ◌-◌, ◌*◌, ◌/◌, ◌%◌, ◌^◌, ◌<◌, ◌≤◌, List, map, Option, None, Some, refl, sym, ap, ◌∙◌, arith}
+use Rattle.std.proofs.Common.{◌≡◌, ℕ, ◌%◌, ◌^◌, ◌<◌, ◌≤◌, Option, None, Some, refl, sym, ap, ◌∙◌, arith}
 use Rattle.std.specs.Prelude.{bit_and, slice_get, option_map}
 use Rattle.std.proofs.lemmas.Nat.{and_mask, and_assoc}
 use Rattle.std.proofs.lemmas.Nat.Bits.{and_high_mask}

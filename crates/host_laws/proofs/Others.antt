@@ -1,17 +1,16 @@
 -- A run leaves the words of other calls as they are.
-use Rattle.std.proofs.Common.{◌≡◌, ℕ, zero, suc, Bool, true, false, cond, not, List, [], ◌∷◌, ◌++◌, length}
+use Rattle.std.proofs.Common.{◌≡◌, ℕ, zero, suc, Bool, true, false, cond, not, List, [], ◌∷◌, ◌++◌}
 use Rattle.std.proofs.Common.{Option, None, Some, refl, sym, ap, ◌∙◌, ◌⊎◌, inl, inr}
-use Rattle.std.specs.Prelude.{◌==◌, ◌&&◌, nat_le, slice_get, slice_set}
-use Rattle.std.proofs.lemmas.Bool.{cases_eq}
-use Rattle.graft_code.specs.Machine.{Machine, Done}
-use Rattle.vino_host.specs.declared.Instruction.{Instruction}
+use Rattle.std.specs.Prelude.{◌==◌, ◌||◌, nat_le, slice_get, slice_set}
+use Rattle.std.proofs.lemmas.Bool.{cases_eq, and_parts}
+use Rattle.graft_code.specs.Machine.{Done}
 use Rattle.vino_host.specs.declared.Record.{Record}
 use Rattle.vino_host.specs.declared.Stop.TheVariants as stop
 use Rattle.vino_host.specs.declared.Word.{Word}
 use Rattle.vino_host.specs.Codes.{BUSY, NO_RECORDS, BAD_ARGUMENT, NOT_CALLABLE}
 use Rattle.vino_host.specs.HostMachine.{host_step}
 use Rattle.vino_host.specs.HostRuns.{State, state, Ended, Stops, after_word, answered, after_answer, after_done, host_run, with_r0}
-use Rattle.vino_host.specs.Tables.{Serves, Gives, Refuses, is_open_to, owned, record_of, serves_word, serves}
+use Rattle.vino_host.specs.Tables.{Serves, Gives, Refuses, is_open_to, may_serve, is_held, is_full, taken, record_of, readings, serves_word, serves}
 use Rattle.host_laws.specs.Claims.{LeavesOthers, RunsLeaveOthers}
 
 -- a place that isn't written
@@ -41,26 +40,27 @@ gives_leaves number id k v table records x t r h = by_word (slice_get table k) r
     same_leaves : (u : List Word) → u ≡ t → LeavesOthers number table u → LeavesOthers number table t
     same_leaves u same g j w e f = ap (λ (y : List Word). slice_get y j) (sym same) ∙ g j w e f
 
-    by_tests : (a b c : Bool) (w : Word) → slice_get table k ≡ Some w → is_open_to number w ≡ a →
+    by_tests : (a b c : Bool) (w : Word) → slice_get table k ≡ Some w → may_serve number id k records w ≡ a →
         cond (not a) (Refuses BUSY) (cond b (Gives w.value table records)
         (cond c (Refuses NO_RECORDS)
-        (Gives w.value (slice_set table k (owned number id v w)) (records ++ record_of k w ∷ []))))
+        (Gives w.value (slice_set table k (taken number id v w)) (records ++ record_of id k w ∷ []))))
         ≡ Gives x t r → LeavesOthers number table t
     by_tests false b c w e o h = cc
     by_tests true true c w e o h =
         let same : table ≡ t = cc in same_leaves table same (λ j u e f. e)
     by_tests true false true w e o h = cc
     by_tests true false false w e o h =
-        let same : slice_set table k (owned number id v w) ≡ t = cc in
-        same_leaves (slice_set table k (owned number id v w)) same
-        (set_leaves number k table w (owned number id v w) e o)
+        let same : slice_set table k (taken number id v w) ≡ t = cc in
+        same_leaves (slice_set table k (taken number id v w)) same
+        (set_leaves number k table w (taken number id v w) e
+        (and_parts (is_open_to number w) (not (id == 1) || nat_le w.readers (readings k records)) o).0)
 
     by_word : (o : Option Word) → slice_get table k ≡ o →
         elim o [ None ↦ Refuses BAD_ARGUMENT | Some w ↦ serves_word number id k v table records w ] ≡ Gives x t r →
         LeavesOthers number table t
     by_word None e h = cc
     by_word (Some w) e h =
-        by_tests (is_open_to number w) (id == 0 && w.owner == number) (nat_le 64 (length records)) w e refl h
+        by_tests (may_serve number id k records w) (is_held number id k records w) (is_full records w) w e refl h
 
 answer_leaves : (number id : ℕ) (rest : State → Ended) (left : ℕ) (s : State) →
     ((q : State) → LeavesOthers number q.table (rest q).state.table) →

@@ -1,12 +1,13 @@
 -- Runs over two tables that agree on what the first one touches. This is what makes completed calls
--- as if one at a time: what other calls do meanwhile is at other words.
-use Rattle.std.specs.Prelude.{◌≡◌, ℕ, Bool, true, false, List, [], ◌∷◌, ◌⊎◌, Some, slice_get}
+-- as if one at a time: what other calls do meanwhile is at other words, or they read too.
+use Rattle.std.specs.Prelude.{◌≡◌, ℕ, Bool, true, false, List, [], ◌∷◌, ◌⊎◌, Option, None, Some, slice_get}
 use Rattle.vino_host.specs.declared.Instruction.{Instruction}
 use Rattle.vino_host.specs.declared.Record.{Record}
 use Rattle.vino_host.specs.declared.Stop.{Stop}
 use Rattle.vino_host.specs.declared.Stop.TheVariants.{Returns, Waits, Drops}
 use Rattle.vino_host.specs.declared.Word.{Word}
 use Rattle.vino_host.specs.HostRuns.{State, state, Ended, host_run}
+use Rattle.vino_host.specs.Tables.{readings}
 
 -- a place has a record
 abbrev pub HasRecord : ℕ → List Record → Type 0
@@ -19,11 +20,20 @@ goes_well Returns = true
 goes_well (Waits id) = true
 goes_well (Drops cause detail) = false
 
--- two tables agree on what is touched
-abbrev pub Agree : (touched : ℕ → Bool) → (table other : List Word) → Type 0
-Agree touched table other = (k : ℕ) → touched k ≡ true → slice_get other k ≡ slice_get table k
+-- a word where no other call reads it: with so many readings of the call's own
+abbrev pub seen : (own : ℕ) → Option Word → Option Word
+seen own o =
+    elim o [
+      | None ↦ None
+      | Some w ↦ Some (record { value = w.value; owner = w.owner; readers = own })
+    ]
 
--- each word that belongs to the call of this number is touched
+-- on what is touched the other table has the same words, where no other call reads them
+abbrev pub Agree : (touched : ℕ → Bool) → List Record → (table other : List Word) → Type 0
+Agree touched records table other =
+    (k : ℕ) → touched k ≡ true → slice_get other k ≡ seen (readings k records) (slice_get table k)
+
+-- each word that the call of this number changed is touched
 abbrev pub OwnsTouched : (number : ℕ) → (touched : ℕ → Bool) → List Word → Type 0
 OwnsTouched number touched table =
     (k : ℕ) (w : Word) → slice_get table k ≡ Some w → w.owner ≡ number → touched k ≡ true
@@ -40,15 +50,16 @@ pub record IsSameRun (touched : ℕ → Bool) (e f : Ended) (other : List Word) 
   pub left : f.left ≡ e.left
   pub machine : f.state.machine ≡ e.state.machine
   pub records : f.state.records ≡ e.state.records
-  pub on : Agree touched e.state.table f.state.table
+  pub on : Agree touched e.state.records e.state.table f.state.table
   pub off : (k : ℕ) → touched k ≡ false → slice_get f.state.table k ≡ slice_get other k
 
--- A run that returns or waits hangs on the words that it touched, those that belonged to it before
--- and those of its records, and on no others: over any table that agrees on these it is the same.
+-- A run that returns or waits hangs on the words that it touched, those that it changed before and
+-- those of its records, and on no others, nor on who else reads them: over any table that agrees on
+-- these it is the same.
 abbrev pub RunsHangOnTheirWords : Type 0
 RunsHangOnTheirWords =
     (number : ℕ) (code : List Instruction) (n : ℕ) (s : State) (other : List Word) (touched : ℕ → Bool) →
     goes_well (host_run number code n s).stop ≡ true → OwnsTouched number touched s.table →
-    RecordsTouched touched (host_run number code n s).state.records → Agree touched s.table other →
+    RecordsTouched touched (host_run number code n s).state.records → Agree touched s.records s.table other →
     IsSameRun touched (host_run number code n s)
     (host_run number code n (state s.machine other s.records)) other

@@ -1,3 +1,4 @@
 pub mod RawAnswers
 pub mod Claims
 pub mod Alone
+pub mod Histories

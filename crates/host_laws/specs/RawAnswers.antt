@@ -1,5 +1,5 @@
 -- The run of a plug-in as a run of code alone: what it called is answered from a list.
-use Rattle.std.specs.Prelude.{ℕ, zero, suc, ◌==◌, ◌||◌, Bool, true, false, cond, List, [], ◌∷◌, Option, None, Some}
+use Rattle.std.specs.Prelude.{ℕ, zero, suc, ◌==◌, cond, List, [], ◌∷◌, Option, None, Some}
 use Rattle.graft_code.specs.Machine.{Done, Went, Called, Returned, DividedByZero, Trapped, Outside, PastEnd}
 use Rattle.graft_code.specs.Runs.{Halt, Unanswered, AtReturn, AtDivision, AtTrap, Astray}
 use Rattle.vino_host.specs.declared.Instruction.{Instruction}

@@ -2,6 +2,7 @@
 #![tactic(auto)]
 
 ghost use Rattle.host_laws.specs.Alone.{RunsHangOnTheirWords};
+ghost use Rattle.host_laws.specs.Histories.{CallsAreOneAtATime};
 ghost use Rattle.host_laws.specs.Claims.{StepsAreRaw, RunsAreRaw, RunsKeepTheTable, RunsLeaveOthers};
 
 /// An instruction of a plug-in is one of its code with each address masked.
@@ -31,4 +32,11 @@ pub fn runs_leave_others()
 /// leaves the same in these words; all else stays as it was there.
 pub fn runs_hang_on_their_words()
     ensures { RunsHangOnTheirWords }
+{}
+
+/// However beginnings, answers and ends of many calls lie between one another over the same words,
+/// each call that completed gave what it gives at once, from its beginning to its end, after those
+/// that completed before it; and where none waits, the words are as these calls leave them.
+pub fn calls_are_one_at_a_time()
+    ensures { CallsAreOneAtATime }
 {}

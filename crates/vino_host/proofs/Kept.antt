@@ -1,7 +1,7 @@
 -- What a run's records say is put back is at each moment the table with which it began.
-use Rattle.std.proofs.Common.{◌≡◌, ℕ, zero, suc, Bool, true, false, cond, List, [], ◌∷◌, ◌++◌, length, refl}
+use Rattle.std.proofs.Common.{◌≡◌, ℕ, zero, suc, Bool, true, false, cond, List, [], ◌∷◌, ◌++◌, refl}
 use Rattle.std.proofs.Common.{ap, ◌∙◌, Option, Some, None}
-use Rattle.std.specs.Prelude.{◌==◌, ◌&&◌, not, nat_le, slice_get, slice_set}
+use Rattle.std.specs.Prelude.{not, nat_le, slice_get, slice_set}
 use Rattle.graft_code.specs.Machine.{Done}
 use Rattle.vino_host.specs.declared.Instruction.{Instruction}
 use Rattle.vino_host.specs.declared.Record.{Record}
@@ -10,7 +10,7 @@ use Rattle.vino_host.specs.Codes.{BUSY, NO_RECORDS, BAD_ARGUMENT, NOT_CALLABLE}
 use Rattle.vino_host.specs.declared.Stop.TheVariants as stop
 use Rattle.vino_host.specs.HostMachine.{host_step}
 use Rattle.vino_host.specs.HostRuns.{State, state, Ended, Answered, after_word, answered, after_answer, after_done, host_run, with_r0}
-use Rattle.vino_host.specs.Tables.{Serves, Gives, Refuses, is_open_to, owned, record_of, serves_word, serves, undone}
+use Rattle.vino_host.specs.Tables.{Serves, Gives, Refuses, may_serve, is_held, is_full, taken, record_of, serves_word, serves, undone}
 use Rattle.vino_host.proofs.Undoing.{undone_behind, set_back}
 
 -- the table with which a run began
@@ -24,22 +24,22 @@ gives_kept number id k v table records x t r h = by_word (slice_get table k) ref
     by_tests : (a b c : Bool) (w : Word) → slice_get table k ≡ Some w →
         cond (not a) (Refuses BUSY) (cond b (Gives w.value table records)
         (cond c (Refuses NO_RECORDS)
-        (Gives w.value (slice_set table k (owned number id v w)) (records ++ record_of k w ∷ []))))
+        (Gives w.value (slice_set table k (taken number id v w)) (records ++ record_of id k w ∷ []))))
         ≡ Gives x t r → undone r t ≡ undone records table
     by_tests false b c w e h = cc
     by_tests true true c w e h = cc
     by_tests true false true w e h = cc
     by_tests true false false w e h =
-        let back : undone (records ++ record_of k w ∷ []) (slice_set table k (owned number id v w)) ≡ undone records table =
-        undone_behind records (record_of k w) (slice_set table k (owned number id v w))
-        ∙ ap (λ (u : List Word). undone records u) (set_back table k w (owned number id v w) e) in cc
+        let back : undone (records ++ record_of id k w ∷ []) (slice_set table k (taken number id v w)) ≡ undone records table =
+        undone_behind records (record_of id k w) (slice_set table k (taken number id v w))
+        ∙ ap (λ (u : List Word). undone records u) (set_back table number id k v w e) in cc
 
     by_word : (o : Option Word) → slice_get table k ≡ o →
         elim o [ None ↦ Refuses BAD_ARGUMENT | Some w ↦ serves_word number id k v table records w ] ≡ Gives x t r →
         undone r t ≡ undone records table
     by_word None e h = cc
     by_word (Some w) e h =
-        by_tests (is_open_to number w) (id == 0 && w.owner == number) (nat_le 64 (length records)) w e h
+        by_tests (may_serve number id k records w) (is_held number id k records w) (is_full records w) w e h
 
 answer_kept : (number id : ℕ) (rest : State → Ended) (left : ℕ) (s : State) →
     ((q : State) → first_table (rest q).state ≡ first_table q) →

@@ -55,7 +55,8 @@ pub const NO_RECORDS: u32 = 10;
 /// Its answer isn't one that its point takes; the detail is r0.
 pub const BAD_ANSWER: u32 = 12;
 
-/// A word that it wanted belongs to another call; the detail is the id that it called.
+/// Another call changed the word that it wanted, or read the one that it wanted to change; the detail
+/// is the id that it called.
 pub const BUSY: u32 = 16;
 
 /// It ran past its code, which no loaded code does.
@@ -106,8 +107,10 @@ pub struct KeyPair {
 #[derive(Clone, Copy)]
 pub struct Word {
     pub value: u32,
-    /// The number of the call that it belongs to; 0 where it belongs to none.
+    /// The number of the call that changed it and hasn't ended; 0 where there is none.
     pub owner: u32,
+    /// How many calls read it that haven't ended.
+    pub readers: u32,
 }
 
 /// A word of the table as a call found it.
@@ -115,7 +118,10 @@ pub struct Word {
 #[derive(Clone, Copy)]
 pub struct Record {
     pub place: u32,
-    pub before: Word,
+    /// 1 where the call changed it; else it read it for the first time.
+    pub id: u32,
+    pub value: u32,
+    pub owner: u32,
 }
 
 /// The records of a call, oldest first.

@@ -2,7 +2,7 @@
 
 ghost use Rattle.std.specs.Prelude.{◌≡◌, ◌<◌, ◌≤◌, ◌++◌, ◌∷◌, [], length, take, true, Some, slice_get};
 ghost use Rattle.vino_host.specs.Tables.{records_of, serves, serves_word, served, is_refused, record_of};
-ghost use Rattle.vino_host.specs.Tables.{undone, released};
+ghost use Rattle.vino_host.specs.Tables.{undone, released, readings};
 ghost use Rattle.vino_host.specs.Tables as spec;
 
 use crate::{BAD_ARGUMENT, BUSY, Log, MOST_RECORDS, NO_RECORDS, Record, Served, Word};
@@ -25,6 +25,27 @@ impl Log {
         self.records[self.count as usize] = entry;
         self.count += 1;
     }
+
+    /// How many readings of the word at place k the records stand for.
+    fn readings(&self, k: u32) -> usize
+        ensures { result ≡ readings k (records_of self.now) }
+    {
+        let mut n = self.size();
+        let mut found = 0;
+        'records: while n > 0 {
+            n -= 1;
+            found += readings_in(&self.records[n], k);
+        }
+        found
+    }
+}
+
+/// How many readings of the word at place k a record stands for.
+fn readings_in(r: &Record, k: u32) -> usize
+    ensures exact { result ≡ readings k (r.now ∷ []) }
+    ensures few { result ≤ 1 }
+{
+    if r.place == k && r.id != 1 { 1 } else { 0 }
 }
 
 /// The word at a place, if there is one.
@@ -34,13 +55,46 @@ fn word_at(table: &[Word], k: u32) -> Option<Word>
     table.get(k as usize).copied()
 }
 
-/// A word that a call read, or changed to v.
-fn owned(number: u32, id: u32, v: u32, w: Word) -> Word
-    ensures { result ≡ spec.owned number id v w }
+/// Whether a call may read or change a word.
+fn may_serve(log: &Log, number: u32, id: u32, k: u32, w: Word) -> bool
+    ensures { result ≡ spec.may_serve number id k (records_of log.now) w }
 {
+    if w.owner != 0 && w.owner != number {
+        return false;
+    }
+    id != 1 || w.readers == 0 || w.readers as usize <= log.readings(k)
+}
+
+/// Whether a call reads a word again.
+fn is_held(log: &Log, number: u32, id: u32, k: u32, w: Word) -> bool
+    ensures { result ≡ spec.is_held number id k (records_of log.now) w }
+{
+    id != 1 && (w.owner == number || log.readings(k) > 0)
+}
+
+/// Whether there is no room for one more record, or for one more reader.
+fn is_full(log: &Log, w: Word) -> bool
+    ensures { result ≡ spec.is_full (records_of log.now) w }
+{
+    log.size() >= MOST_RECORDS || w.readers == u32::MAX
+}
+
+/// A word that a call changed to v, or read for the first time.
+fn taken(number: u32, id: u32, v: u32, w: Word) -> Word
+    requires { w.readers < 4294967295 }
+    ensures { result ≡ spec.taken number id v w }
+{
+    if id == 1 {
+        return Word {
+            value: v,
+            owner: number,
+            readers: w.readers,
+        };
+    }
     Word {
-        value: if id == 1 { v } else { w.value },
-        owner: number,
+        value: w.value,
+        owner: w.owner,
+        readers: w.readers + 1,
     }
 }
 
@@ -60,20 +114,22 @@ fn serve_word(
     ensures table { is_refused result ≡ true → table.new ≡ table.old }
     ensures records { is_refused result ≡ true → records_of log.new ≡ records_of log.old }
 {
-    if w.owner != 0 && w.owner != number {
+    if !may_serve(log, number, id, k, w) {
         return Served::Refused(BUSY);
     }
-    if id == 0 && w.owner == number {
+    if is_held(log, number, id, k, w) {
         return Served::Gave(w.value);
     }
-    if log.size() >= MOST_RECORDS {
+    if is_full(log, w) {
         return Served::Refused(NO_RECORDS);
     }
     log.push(Record {
         place: k,
-        before: w,
+        id,
+        value: w.value,
+        owner: w.owner,
     });
-    table[k as usize] = owned(number, id, v, w);
+    table[k as usize] = taken(number, id, v, w);
     Served::Gave(w.value)
 }
 
@@ -97,12 +153,23 @@ pub(crate) fn serve(
     }
 }
 
-/// A word as a record has it is put back, if the table has its place.
+/// How many readings of its word a record stands for.
+fn reading_of(r: &Record) -> u32
+    ensures { result ≡ spec.reading_of r.now }
+{
+    if r.id == 1 { 0 } else { 1 }
+}
+
+/// The word of a record is put back as the record has it, if the table has its place.
 fn put_back(table: &mut [Word], r: &Record)
     ensures { table.new ≡ spec.put_back r.now table.old }
 {
-    if (r.place as usize) < table.len() {
-        table[r.place as usize] = r.before;
+    if let Some(w) = word_at(table, r.place) {
+        table[r.place as usize] = Word {
+            value: r.value,
+            owner: r.owner,
+            readers: w.readers.saturating_sub(reading_of(r)),
+        };
     }
 }
 
@@ -124,7 +191,8 @@ fn release_at(table: &mut [Word], r: &Record)
     if let Some(w) = word_at(table, r.place) {
         table[r.place as usize] = Word {
             value: w.value,
-            owner: r.before.owner,
+            owner: r.owner,
+            readers: w.readers.saturating_sub(reading_of(r)),
         };
     }
 }

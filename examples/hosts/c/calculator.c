@@ -11,7 +11,7 @@ int main(int count, char **words) {
     static vino_call call;
     static uint8_t segment[VINO_SEGMENT];
     static const uint8_t none[1] = {0};
-    vino_word table[2] = {{0, 0}, {0, 0}};
+    vino_word table[2] = {{0, 0, 0}, {0, 0, 0}};
     vino_request request = {.number = 1, .point = 0, .limit = 10000, .fresh = 1};
     vino_answer answer;
     char name[32];

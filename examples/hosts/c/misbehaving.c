@@ -21,7 +21,7 @@ int main(int count, char **words) {
     int failed = 0;
     if (count != 2) return 1;
     for (int i = 0; i < VINO_SEGMENT; i++) before[i] = (uint8_t)(i * 7);
-    for (uint32_t i = 0; i < WORDS; i++) first[i] = (vino_word){100 + i, 0};
+    for (uint32_t i = 0; i < WORDS; i++) first[i] = (vino_word){100 + i, 0, 0};
     for (size_t i = 0; i < sizeof names / sizeof *names; i++) {
         memcpy(segment, before, sizeof segment);
         memcpy(table, first, sizeof table);

@@ -80,7 +80,7 @@ int main(int count, char **words) {
         }
         std::string text = "hello, plug-in";
         std::vector<std::uint8_t> bytes(text.begin(), text.end());
-        std::vector<vino_word> table(4, vino_word{1, 0});
+        std::vector<vino_word> table(4, vino_word{1, 0, 0});
         vino_request request = {};
         request.number = 1;
         request.point = 6;

@@ -28,11 +28,11 @@ class _Keys(ctypes.Structure):
 
 
 class _Word(ctypes.Structure):
-    _fields_ = [("value", c_uint32), ("owner", c_uint32)]
+    _fields_ = [("value", c_uint32), ("owner", c_uint32), ("readers", c_uint32)]
 
 
 class _Record(ctypes.Structure):
-    _fields_ = [("place", c_uint32), ("before", _Word)]
+    _fields_ = [("place", c_uint32), ("id", c_uint32), ("value", c_uint32), ("owner", c_uint32)]
 
 
 class _Call(ctypes.Structure):
@@ -78,7 +78,7 @@ class Table:
 
     def __init__(self, values: Sequence[int]) -> None:
         """Makes a table of these words, each 0 to 2**32 - 1."""
-        self._words = (_Word * len(values))(*(_Word(value, 0) for value in values))
+        self._words = (_Word * len(values))(*(_Word(value, 0, 0) for value in values))
 
     def values(self) -> list[int]:
         """The words."""

@@ -23,6 +23,7 @@ struct Keys {
 struct Word {
     value: u32,
     owner: u32,
+    readers: u32,
 }
 
 #[repr(C)]
@@ -30,7 +31,7 @@ struct Call {
     heads: [u32; 7],
     machine: [u32; 17],
     count: u32,
-    records: [[u32; 3]; 64],
+    records: [[u32; 4]; 64],
     segment: [u8; 4096],
 }
 
@@ -90,7 +91,7 @@ impl Sandbox {
     fn load(keys: &Keys, image: &[u8]) -> Result<Sandbox, u32> {
         let mut made = Sandbox {
             plugin: Box::new(Plugin { size: 0, body_size: 0, keep: 0, code: [[0; 2]; 1024], body: [0; 4096] }),
-            call: Box::new(Call { heads: [0; 7], machine: [0; 17], count: 0, records: [[0; 3]; 64], segment: [0; 4096] }),
+            call: Box::new(Call { heads: [0; 7], machine: [0; 17], count: 0, records: [[0; 4]; 64], segment: [0; 4096] }),
             segment: Box::new([0; 4096]),
         };
         let mut place = 0;
@@ -124,7 +125,7 @@ fn image(folder: &str, name: &str) -> Vec<u8> {
 fn main() {
     let folder = std::env::args().nth(1).expect("a folder");
     let keys = Keys { count: 1, first: [0; 32], second: [0; 32] };
-    let mut table = [Word { value: 5, owner: 0 }; 3];
+    let mut table = [Word { value: 5, owner: 0, readers: 0 }; 3];
     for name in ["count", "bad-divides", "ask"] {
         let mut plugin = Sandbox::load(&keys, &image(&folder, name)).expect("an image that loads");
         let request = Request { number: 1, point: 0, limit: 1000, fresh: 1, arguments: [1, 2, 3, 4] };
