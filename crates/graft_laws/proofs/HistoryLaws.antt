@@ -20,7 +20,7 @@ use Rattle.graft_laws.proofs.SettleDropLemmas as SettleDrop
 use Rattle.graft_laws.proofs.TickLemmas as Tick
 use Rattle.graft_laws.proofs.UndoneLemmas as Undone
 
-known : (m : Meaning) → Laws m → Known m
+pub known : (m : Meaning) → Laws m → Known m
 known m laws = record {
   laws = laws;
   instructions = instructions_work;

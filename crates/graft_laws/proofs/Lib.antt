@@ -80,5 +80,6 @@ pub mod SumLemmas
 pub mod TickLemmas
 pub mod TotalLemmas
 pub mod UndoableLemmas
+pub mod UnaskedLemmas
 pub mod UndoneLemmas
 pub mod HistoryLaws

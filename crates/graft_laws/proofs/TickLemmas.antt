@@ -91,9 +91,9 @@ module _ (m : Meaning) (know : Known m) (stability : Stability m) (one : NeedsHa
   -- ---- one action
 
   -- an action leaves a sound kernel, and less to lose
-  record Falls (r u : Run) : Type 0 where
-    sound : IsSoundKernel m u.kernel
-    less : suc (total m u.kernel) ≤ total m r.kernel
+  pub record Falls (r u : Run) : Type 0 where
+    pub sound : IsSoundKernel m u.kernel
+    pub less : suc (total m u.kernel) ≤ total m r.kernel
 
   -- a need's mode is that of the first need of its object
   one_mode : (k : Kernel) (p : ℕ) (c : Call) (n : Need) → IsSoundKernel m k → k.call p ≡ Some c →
@@ -222,7 +222,7 @@ module _ (m : Meaning) (know : Known m) (stability : Stability m) (one : NeedsHa
       call_of d (Some c) e low = (c, e)
 
   -- the action for an entry that is blocked by what it keeps as its blocker
-  entry_falls : (r : Run) (e : Waiter) → IsSoundKernel m r.kernel →
+  pub entry_falls : (r : Run) (e : Waiter) → IsSoundKernel m r.kernel →
       HasWholeBlocks r.kernel.world r.blocks → Contains r.kernel.order e →
       is_some e.blocker ≡ true →
       blocker m r.kernel e.process ≡ e.blocker → Falls r (entry_action m e e.blocker r)
@@ -307,7 +307,8 @@ module _ (m : Meaning) (know : Known m) (stability : Stability m) (one : NeedsHa
     -- ---- a tick
 
     -- all calls can lose at most 288
-    total_most : (r : Run) → IsSoundKernel m r.kernel → HasWholeBlocks r.kernel.world r.blocks → total m r.kernel ≤ 288
+    pub total_most : (r : Run) → IsSoundKernel m r.kernel → HasWholeBlocks r.kernel.world r.blocks →
+        total m r.kernel ≤ 288
     total_most r sound whole =
         sum_eighteen 16 (λ p. share m r.kernel (in_order p r.kernel.order) p)
         (λ p. share_most p (in_order p r.kernel.order))
@@ -341,7 +342,7 @@ module _ (m : Meaning) (know : Known m) (stability : Stability m) (one : NeedsHa
             (depth_most b (length (levels_of m r.kernel p)) (few_levels m know.laws know.histories r.kernel sound p))
 
     -- each entry keeps its blocker as it is counted
-    counted_rests : (r : Run) (number : ℕ) → IsAtRest m r.kernel → IsAtRest m (ticked number r).kernel
+    pub counted_rests : (r : Run) (number : ℕ) → IsAtRest m r.kernel → IsAtRest m (ticked number r).kernel
     counted_rests r number rests e contained =
         each_contains (λ (e : Waiter). (is_some e.blocker ≡ true)
         × (blocker m r.kernel e.process ≡ e.blocker)) (counted r.kernel.order) e

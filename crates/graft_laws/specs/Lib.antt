@@ -6,3 +6,4 @@ pub mod Stability
 pub mod Notes
 pub mod SoundCalls
 pub mod Ticks
+pub mod Unasked

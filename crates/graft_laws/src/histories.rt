@@ -1,6 +1,7 @@
 //! Laws of where histories lead.
 
 ghost use Rattle.graft_laws.specs.Points.{HistoriesHoldAnswers};
+ghost use Rattle.graft_laws.specs.Unasked.{UnaskedIsUnseen};
 ghost use Rattle.graft_laws.specs.Histories.{BeginningsReplay, InstructionsReplay, HistoriesReplay};
 ghost use Rattle.graft_laws.specs.Histories.{DropsReplay, HistoriesAlike};
 
@@ -35,4 +36,10 @@ pub fn histories_alike<R: Rules>()
 /// Level 0 holds what tells whether the answer of its point is valid, wherever a history leads.
 pub fn histories_hold_answers<R: Rules>()
     ensures { HistoriesHoldAnswers R.meaning }
+{}
+
+/// What a call in a graft doesn't hold or need, it can't tell: from each state that agrees on what it
+/// holds and next needs it comes to the same, unto the answer that completes it.
+pub fn unasked_is_unseen<R: Rules>()
+    ensures { UnaskedIsUnseen R.meaning }
 {}

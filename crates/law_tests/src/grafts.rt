@@ -9,6 +9,7 @@ fn the_system_calls_have_the_laws(_rt: HostRuntime) {
     histories::histories_replay::<PlainRules>();
     histories::histories_alike::<PlainRules>();
     histories::histories_hold_answers::<PlainRules>();
+    histories::unasked_is_unseen::<PlainRules>();
     kernels::steps_stay_sound::<PlainRules>();
     kernels::drops_stay_sound::<PlainRules>();
     kernels::settling_stays_sound::<PlainRules>();

@@ -1,6 +1,7 @@
 //! The laws of `run_laws`, at the table of the system calls.
 
-use run_laws::{grants, seen, streams};
+use placed_laws::PlainRules;
+use run_laws::{grants, seen, streams, waits};
 
 #[test]
 fn the_system_calls_have_the_laws(_rt: HostRuntime) {
@@ -14,4 +15,6 @@ fn the_system_calls_have_the_laws(_rt: HostRuntime) {
     seen::blocks_were_seen();
     seen::syncs_end_written();
     streams::runs_keep_streams();
+    waits::waits_end::<PlainRules>();
+    waits::runs_end_waits();
 }

@@ -9,4 +9,6 @@ pub mod CommitLemmas
 pub mod SeenRunLemmas
 pub mod SyncEndLemmas
 pub mod StreamRunLemmas
+pub mod WorldLemmas
+pub mod WaitLemmas
 mod NeededPremises

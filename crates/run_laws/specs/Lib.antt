@@ -3,3 +3,4 @@ pub mod Grants
 pub mod Seen
 pub mod SeenRuns
 pub mod Streams
+pub mod Waits

@@ -25,6 +25,7 @@ use Rattle.script_model.specs.Alike.{Extends}
 use Rattle.script_model.specs.Opening.{opening_kernel}
 use Rattle.script_model.specs.Session.{Build, Session, after_line, first_io, later_io, session_after, first_session}
 use Rattle.script_model.specs.Sound.{IsAtRest}
+use Rattle.script_model.specs.Directory.{Disk}
 use Rattle.script_model.specs.Laws.{Laws}
 use Rattle.call_laws.specs.Ledgers.{at_here, at_other}
 use Rattle.graft_laws.specs.Kernels.{IsSoundRun}
@@ -33,6 +34,7 @@ use Rattle.graft_laws.proofs.KernelStepLemmas.{drop_sound}
 use Rattle.graft_laws.proofs.SettleSoundLemmas.{timed_out_sound, joined_call_sound}
 use Rattle.session_laws.specs.NoteNumbers.{numbered}
 use Rattle.session_laws.specs.Answers.{has_call, RunsAnswer}
+use Rattle.session_laws.specs.Sessions.{run_of, IsRunnable}
 use Rattle.session_laws.proofs.ActionLemmas.{Loses, entry_keeps, actions_keep, settled_keeps}
 use Rattle.session_laws.proofs.ActionLemmas.{all_steps_keep, all_actions_keep}
 use Rattle.session_laws.proofs.AnsweringLemmas.{call_test, IsAbsent, absent_kept}
@@ -254,14 +256,24 @@ module _ (b : Build) (keys : Keys) (size : ℕ) where
           (line_holds (RestsAfter b.meaning) (opening_rests b.meaning) b keys size s text (first_io ios)
           (goes_on laws s s.kernel stands h) h)
 
+-- each kernel of a run rests, and no call has the number of an event to come
+runs_rest_after : (b : Build) (keys : Keys) (d : Disk) (texts : List (List ℕ)) (ios : List (List Bool)) (k : Kernel) →
+    IsRunnable b d → (run_of b keys d texts ios).kernel ≡ Some k →
+    RestsAfter b.meaning (run_of b keys d texts ios).events k
+runs_rest_after b keys d texts ios k h is =
+    subst (Holds (RestsAfter b.meaning) (run_of b keys d texts ios).events) is
+    (lines_rest b keys d.size h.laws h.callable h.some h.most (first_session d) texts ios
+    (first_session_stands b keys d h) tt)
+
+pub runs_rest : (b : Build) (keys : Keys) (d : Disk) (texts : List (List ℕ)) (ios : List (List Bool)) (k : Kernel) →
+    IsRunnable b d → (run_of b keys d texts ios).kernel ≡ Some k → IsAtRest b.meaning k
+runs_rest b keys d texts ios k h is = (runs_rest_after b keys d texts ios k h is).rests
+
 pub runs_answer : RunsAnswer
 runs_answer b keys d texts ios k h is =
     let s = session_after b keys d.size (first_session d) texts ios in
     let sound = runs_are_sound b keys d texts ios k h is in
-    let ready : RestsAfter b.meaning s.events k =
-    subst (Holds (RestsAfter b.meaning) s.events) is
-    (lines_rest b keys d.size h.laws h.callable h.some h.most (first_session d) texts ios
-    (first_session_stands b keys d h) tt) in
+    let ready = runs_rest_after b keys d texts ios k h is in
     events_are_answered b.meaning h.laws k s.blocks (suc s.events) sound.0 ready.rests sound.1
     (ready.free (suc s.events) (next s.events))
   where

@@ -11,3 +11,4 @@ pub mod EndLemmas
 pub mod ImageLemmas
 pub mod ShortLists
 pub mod OneRunLemmas
+pub mod AnsweredLemmas

@@ -8,3 +8,4 @@ pub mod Demos
 pub mod Does
 pub mod Held
 pub mod OneRun
+pub mod Answered
