@@ -2,3 +2,4 @@ mod Joined
 mod Lanes
 mod Plain
 mod Rising
+mod Whole

@@ -1,7 +1,7 @@
 -- The shapes of a picture, as they are written.
 use Rattle.std.specs.Prelude.{ℕ, ◌+◌, ◌-◌, ◌^◌, min, List, ◌∷◌, ◌++◌, codes, decimal, flat_map}
 use Rattle.lab_picture.specs.declared.shapes.At.{At}
-use Rattle.lab_picture.specs.Escapes.{escaped}
+use Rattle.lab_picture.specs.Escapes.{escaped, shown}
 
 -- an attribute, behind a space
 unfoldable pub attribute : (name value : List ℕ) → List ℕ
@@ -55,9 +55,14 @@ rotation at = counted (codes "rotate(-58 ") at.x ++ counted (codes " ") at.y ++ 
 unfoldable pub rising : At → List ℕ
 rising at = codes " transform=\"" ++ rotation at ++ codes "\""
 
--- a text of a class that rises to the right, escaped
-abbrev pub rising_text : (class : List ℕ) → (at : At) → (said : List ℕ) → List ℕ
-rising_text class at said = text_start class at ++ rising at ++ text_end (flat_map escaped said)
+-- a text of a class, of which at most so many signs stand there
+abbrev pub fitted_text : (class : List ℕ) → (at : At) → (said : List ℕ) → (most : ℕ) → List ℕ
+fitted_text class at said most = text_start class at ++ text_end (shown most said)
+
+-- one that rises to the right
+abbrev pub rising_text : (class : List ℕ) → (at : At) → (said : List ℕ) → (most : ℕ) → List ℕ
+rising_text class at said most =
+    text_start class at ++ rising at ++ text_end (shown most said)
 
 -- four units before a length, and behind it, within the numbers that there are
 abbrev pub before : ℕ → ℕ

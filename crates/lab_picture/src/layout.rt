@@ -3,19 +3,28 @@
 ghost use Rattle.std.specs.Prelude.{◌≡◌, ℕ, ◌<◌, slice_index};
 ghost use Rattle.lab_picture.specs.Strips as spec;
 
-use lab_story::{Bar, DroppedGraft, Kind, PutBack, Story};
+use lab_story::{Bar, Column, DroppedGraft, Kind, PutBack, Story};
 
-/// The events beside each other before the picture goes on below.
-pub const PER_STRIP: u32 = 28;
+/// The most events beside each other before the picture goes on below.
+pub const MOST_COLUMNS: u32 = 20;
 
 /// Where the first event stands.
 pub const LEFT: u32 = 74;
 
-/// The width of an event.
-pub const COLUMN: u32 = 31;
+/// Where the last event ends. Behind it the lines of the last events have room.
+pub const RIGHT: u32 = 920;
 
-/// The height of the script's lines above a strip.
-pub const HEADER: u32 = 112;
+/// Where all ends.
+pub const EDGE: u32 = 992;
+
+/// The most width of an event.
+pub const WIDEST: u32 = 120;
+
+/// The most signs of a script line above its event.
+pub const LINE_SIGNS: usize = 26;
+
+/// The height of a sign of such a line, as it rises.
+const RISE: u32 = 6;
 
 /// The height of the row of what is no call.
 pub const NOTES: u32 = 30;
@@ -26,20 +35,44 @@ pub const LEVEL: u32 = 14;
 /// The height of the bar of a call.
 pub const BAR: u32 = 14;
 
-/// The height of a line of text below a bar, and of a record that was put back.
+/// The height of a line of text.
 pub const TEXT: u32 = 15;
 
 /// The height of what stands above the first strip.
 pub const TOP: u32 = 64;
 
 /// The space below a strip.
-pub const GAP: u32 = 18;
+pub const GAP: u32 = 22;
 
-/// The most records that are drawn below a strip.
+/// The most records that are told below a strip.
 pub const RECORDS: u32 = 12;
 
 /// The processes.
 pub const PROCESSES: usize = 16;
+
+/// How many events a strip has, and how wide each is.
+#[derive(Clone, Copy)]
+pub struct Grid {
+    pub per_strip: u32,
+    pub column: u32,
+}
+
+/// The grid of so many events: strips of about one length, which take the width.
+pub fn grid_of(events: u32) -> Grid {
+    let strips = events.saturating_add(MOST_COLUMNS - 1) / MOST_COLUMNS;
+    let per_strip = rounded_up(events, strips.max(1)).max(1);
+    Grid {
+        per_strip,
+        column: ((RIGHT - LEFT) / per_strip).min(WIDEST),
+    }
+}
+
+/// A quotient, rounded up.
+fn rounded_up(n: u32, divisor: u32) -> u32
+    requires { 0 < divisor }
+{
+    n.saturating_add(divisor - 1) / divisor
+}
 
 /// Some events of a run, and where their lanes stand.
 #[derive(Clone, Copy)]
@@ -49,19 +82,18 @@ pub struct Strip {
     pub last: u32,
     /// Where it begins, from above.
     pub top: u32,
+    /// The width of an event.
+    pub column: u32,
+    /// The height of the script's lines above.
+    pub header: u32,
     /// How many levels the lanes have room for.
     pub levels: u32,
+    /// The height of the row above the levels, for the codes of drops.
+    pub codes: u32,
+    /// The height of the row below the results, for what is waited for.
+    pub waits: u32,
     /// The number of the lane of each process, from 1; 0 where it has none.
     pub lanes: [u32; PROCESSES],
-}
-
-/// The height of a lane with room for so many levels.
-fn lane_height(levels: u32) -> u32 {
-    levels
-        .saturating_mul(LEVEL)
-        .saturating_add(BAR)
-        .saturating_add(TEXT)
-        .saturating_add(8)
 }
 
 /// The greatest of some numbers.
@@ -73,23 +105,45 @@ fn greatest(numbers: &[u32]) -> u32 {
     most
 }
 
+/// The height of the lines above the events from a first to a last one.
+pub fn header_of(columns: &[Column], first: u32, last: u32) -> u32 {
+    let mut most = 0;
+    for column in columns {
+        if column.event >= first && column.event <= last {
+            most = most.max(column.line.len());
+        }
+    }
+    (most.min(LINE_SIGNS) as u32)
+        .saturating_mul(RISE)
+        .saturating_add(20)
+}
+
 impl Strip {
+    /// The height of a lane.
+    fn lane_height(&self) -> u32 {
+        self.levels
+            .saturating_mul(LEVEL)
+            .saturating_add(BAR + TEXT + 8)
+            .saturating_add(self.codes)
+            .saturating_add(self.waits)
+    }
+
     /// Where an event begins, from the left.
     pub fn x(&self, event: u32) -> u32 {
         event
             .saturating_sub(self.first)
-            .saturating_mul(COLUMN)
+            .saturating_mul(self.column)
             .saturating_add(LEFT)
     }
 
     /// The middle of an event.
     pub fn middle(&self, event: u32) -> u32 {
-        self.x(event).saturating_add(COLUMN / 2)
+        self.x(event).saturating_add(self.column / 2)
     }
 
     /// Where the strip ends to the right.
     pub fn right(&self) -> u32 {
-        self.x(self.last).saturating_add(COLUMN)
+        self.x(self.last).saturating_add(self.column)
     }
 
     /// Whether an event is one of the strip.
@@ -108,13 +162,13 @@ impl Strip {
 
     /// Where the lanes begin.
     pub fn lanes_top(&self) -> u32 {
-        self.top.saturating_add(HEADER).saturating_add(NOTES)
+        self.top.saturating_add(self.header).saturating_add(NOTES)
     }
 
     /// Where the lanes end.
     pub fn lanes_end(&self) -> u32 {
         greatest(&self.lanes)
-            .saturating_mul(lane_height(self.levels))
+            .saturating_mul(self.lane_height())
             .saturating_add(self.lanes_top())
     }
 
@@ -131,9 +185,10 @@ impl Strip {
     /// Where the bars of the calls of a process begin, from above.
     pub fn y(&self, process: u32) -> u32 {
         self.lane(process)
-            .saturating_mul(lane_height(self.levels))
+            .saturating_mul(self.lane_height())
             .saturating_add(self.lanes_top())
             .saturating_sub(BAR + TEXT + 4)
+            .saturating_sub(self.waits)
     }
 
     /// Where a bar begins, from above.
@@ -149,10 +204,10 @@ impl Strip {
         self.y(process).saturating_sub(level.saturating_mul(LEVEL))
     }
 
-    /// The height of the strip with so many records below.
-    pub fn height(&self, records: u32) -> u32 {
-        records
-            .min(RECORDS + 1)
+    /// The height of the strip with so many lines of text below.
+    pub fn height(&self, lines: usize) -> u32 {
+        u32::try_from(lines)
+            .unwrap_or(u32::MAX)
             .saturating_mul(TEXT)
             .saturating_add(self.lanes_end())
             .saturating_add(GAP)

@@ -2,13 +2,16 @@
 //! and the whole.
 #![tactic(auto)]
 
+mod below;
 mod escape;
 pub mod laws;
 mod layout;
 mod paint;
 mod picture;
+mod places;
 mod records;
 mod shapes;
+mod style;
 
 pub use crate::picture::draw;
-pub use lab_story::{Chosen, MOST_EVENTS, PictureFault, Row, slow_script};
+pub use lab_story::{Chosen, MOST_EVENTS, PictureFault, Reader, Story, admitted, slow_script};

@@ -3,7 +3,7 @@
 ghost use Rattle.std.specs.Prelude.{◌≡◌, ◌++◌, OnOk};
 ghost use Rattle.lab_picture.specs.Shapes as spec;
 
-use crate::escape::append_text;
+use crate::escape::{append_shown, append_text};
 use kernel_data::NoMemory;
 use text_words::{append, append_number, append_with};
 
@@ -127,15 +127,38 @@ fn append_rising(out: &mut Vec<u8>, at: At) -> Result<(), NoMemory>
     Ok(())
 }
 
-/// A text of a class that rises to the right.
-pub fn rising_text(out: &mut Vec<u8>, class: &[u8], at: At, said: &[u8]) -> Result<(), NoMemory>
+/// A text of a class, of which at most so many signs stand there.
+pub fn fitted_text(
+    out: &mut Vec<u8>,
+    class: &[u8],
+    at: At,
+    said: &[u8],
+    most: usize,
+) -> Result<(), NoMemory>
     ensures shape { OnOk result (out.new.items
-        ≡ out.old.items ++ spec.rising_text class.now at said.now) }
+        ≡ out.old.items ++ spec.fitted_text class.now at said.now most) }
+{
+    begin_text(out, class, at)?;
+    append(out, b">")?;
+    append_shown(out, said, most)?;
+    append(out, b"</text>\n")
+}
+
+/// The same of a text that rises to the right.
+pub fn rising_text(
+    out: &mut Vec<u8>,
+    class: &[u8],
+    at: At,
+    said: &[u8],
+    most: usize,
+) -> Result<(), NoMemory>
+    ensures shape { OnOk result (out.new.items
+        ≡ out.old.items ++ spec.rising_text class.now at said.now most) }
 {
     begin_text(out, class, at)?;
     append_rising(out, at)?;
     append(out, b">")?;
-    append_text(out, said)?;
+    append_shown(out, said, most)?;
     append(out, b"</text>\n")
 }
 

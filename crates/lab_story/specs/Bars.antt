@@ -1,5 +1,5 @@
 -- Where bars end.
-use Rattle.std.specs.Prelude.{ℕ, ◌==◌, ◌&&◌, Bool, true, false, not, cond, nat_le, nat_lt, List, []}
+use Rattle.std.specs.Prelude.{ℕ, ◌-◌, ◌^◌, ◌==◌, ◌&&◌, Bool, true, false, not, cond, nat_le, nat_lt, List, []}
 use Rattle.std.specs.Prelude.{◌∷◌, length, Option, option_map, find, slice_index_or}
 use Rattle.std.specs.List.{list_any}
 use Rattle.std.specs.Option.{option_map_or}
@@ -99,3 +99,13 @@ abbrev pub level_of_graft : (call : ℕ) → (texts : List (List ℕ)) → (graf
 level_of_graft call texts graft bars =
     option_map_or (λ (bar : Bar). level_of bar.kind) (find (names call texts graft) bars)
     (last_level call 1 bars)
+
+-- a bar is an open one of a level of a process, and names no graft
+abbrev pub is_nameless : (process level : ℕ) → Bar → Bool
+is_nameless process level bar =
+    bar.process == process && is_open bar.end && is_at level bar.kind && bar.text == 2 ^ 64 - 1
+
+-- it names one then
+abbrev pub named : (process level text : ℕ) → Bar → Bar
+named process level text bar =
+    cond (is_nameless process level bar) (record bar { text = text }) bar

@@ -1,9 +1,8 @@
 -- Which lines of a script are events, and how many a picture shows.
-use Rattle.std.specs.Prelude.{ℕ, ◌+◌, ◌-◌, ◌==◌, Bool, true, not, ◌&&◌, ◌||◌, min, max, List, [], ◌∷◌, codes, count_by}
+use Rattle.std.specs.Prelude.{ℕ, ◌+◌, ◌-◌, ◌==◌, Bool, true, not, ◌&&◌, ◌||◌, cond, min, max, List, [], ◌∷◌, codes, count_by}
 use Rattle.std.specs.List.{slice_split}
 use Rattle.script_model.specs.World.{same_bytes}
 use Rattle.script_model.specs.Script as script
-use Rattle.lab_story.specs.declared.event.Row.{Row}
 
 -- the first word of a line
 abbrev pub first_word : List ℕ → List ℕ
@@ -24,9 +23,17 @@ is_blank (b ∷ bs) = b == 35
 abbrev pub is_event : List ℕ → Bool
 is_event line = not (is_blank line) && not (sets_up (first_word line))
 
--- how many rows are events
-abbrev pub event_count : List Row → ℕ
-event_count rows = count_by (λ r. is_event r.line.now) rows
+-- how many events there are by the end of a line, of so many before it
+abbrev pub events_by : (before : ℕ) → List ℕ → ℕ
+events_by before line = cond (is_event line) (before + 1) before
+
+-- the lines of a script
+abbrev pub lines_of : List ℕ → List (List ℕ)
+lines_of script = slice_split (λ b. b == 10) script
+
+-- how many lines of a script are events
+abbrev pub event_count : List ℕ → ℕ
+event_count script = count_by is_event (lines_of script)
 
 -- how many events there are from the first to the last one, of so many
 abbrev pub chosen_count : (first last count : ℕ) → ℕ

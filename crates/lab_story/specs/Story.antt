@@ -4,6 +4,7 @@ use Rattle.lab_story.specs.declared.story.Story.{Story}
 
 -- no bar, no drop, no arrow, nothing that was put back, and no event
 pub record IsEmpty (s : Story) : Type 0 where
+  pub in_flight : s.in_flight.items ≡ []
   pub bars : s.bars.items ≡ []
   pub texts : s.texts.items ≡ []
   pub drops : s.drops.items ≡ []

@@ -4,7 +4,7 @@ ghost use Rattle.std.specs.Prelude.{◌≡◌, ◌≤◌, min, max, IfOk, IfErr}
 ghost use Rattle.lab_story.specs.Events.{chosen_count, event_count};
 ghost use Rattle.lab_story.specs.Refusals.{IsTooMany};
 
-use crate::event::{Row, count_events};
+use crate::event::count_events;
 use script_model::NoMemory;
 
 /// The most events of a picture.
@@ -60,17 +60,16 @@ fn within(chosen: Chosen, count: usize) -> Chosen
     }
 }
 
-/// The chosen events that there are among the rows of a run: at most 2,000, or a refusal with their
-/// number.
-pub fn admitted(rows: &[Row], chosen: Chosen) -> Result<Chosen, PictureFault>
+/// The chosen events that a script has: at most 2,000, or a refusal with their number.
+pub fn admitted(script: &[u8], chosen: Chosen) -> Result<Chosen, PictureFault>
     ensures first { IfOk result (λ c. c.first ≡ max chosen.first 1) }
-    ensures last { IfOk result (λ c. c.last ≡ min chosen.last (event_count rows.now)) }
+    ensures last { IfOk result (λ c. c.last ≡ min chosen.last (event_count script.now)) }
     ensures few { IfOk result (λ _.
-        chosen_count chosen.first chosen.last (event_count rows.now) ≤ 2000) }
+        chosen_count chosen.first chosen.last (event_count script.now) ≤ 2000) }
     ensures refused { IfErr result (IsTooMany
-        (chosen_count chosen.first chosen.last (event_count rows.now))) }
+        (chosen_count chosen.first chosen.last (event_count script.now))) }
 {
-    let count = count_events(rows);
+    let count = count_events(script);
     let events = count_chosen(chosen, count);
     if events > u64::from(MOST_EVENTS) {
         return Err(PictureFault::TooMany(events));

@@ -1,18 +1,9 @@
 //! Which lines of a script are events.
 
-ghost use Rattle.std.specs.Prelude.{◌≡◌};
+ghost use Rattle.std.specs.Prelude.{◌≡◌, ◌<◌, ◌-◌, ◌^◌};
 ghost use Rattle.lab_story.specs.Events as spec;
 
 use text_words::Parts;
-
-/// A line of a script without its newline, and what it wrote, each line of it with its newline.
-#[derive(Clone, Copy)]
-pub struct Row<'a> {
-    /// The line.
-    pub line: &'a [u8],
-    /// What it wrote.
-    pub written: &'a [u8],
-}
 
 /// The first word of a line.
 fn first_word(line: &[u8]) -> &[u8]
@@ -48,9 +39,22 @@ pub fn is_event(line: &[u8]) -> bool
     !is_blank(line) && !sets_up(first_word(line))
 }
 
-/// How many rows are events.
-pub fn count_events(rows: &[Row]) -> usize
-    ensures { result ≡ spec.event_count rows.now }
+/// How many events there are by the end of a line, of so many before it.
+pub(crate) fn count_by(before: usize, line: &[u8]) -> usize
+    requires { before < 2 ^ 64 - 1 }
+    ensures { result ≡ spec.events_by before line.now }
 {
-    rows.iter().filter(|row| is_event(row.line)).count()
+    if is_event(line) { before + 1 } else { before }
+}
+
+/// How many lines of a script are events.
+pub fn count_events(script: &[u8]) -> usize
+    ensures { result ≡ spec.event_count script.now }
+{
+    let mut lines = Parts::new(script, b'\n');
+    let mut count = 0;
+    while let Some(line) = lines.next() {
+        count = count_by(count, line);
+    }
+    count
 }

@@ -10,8 +10,8 @@ mod slow;
 mod story;
 
 pub use crate::chosen::{Chosen, MOST_EVENTS, PictureFault, admitted};
-pub use crate::event::{Row, count_events, is_event};
-pub use crate::reading::read;
+pub use crate::event::{count_events, is_event};
+pub use crate::reading::Reader;
 pub use crate::slow::slow_script;
 pub use crate::story::{
     Arrow, Bar, Column, DroppedGraft, End, Kind, NO_TEXT, PutBack, Record, Story, text_of_number,

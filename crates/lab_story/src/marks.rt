@@ -9,12 +9,20 @@ use crate::story::{
     Arrow, Bar, Column, DroppedGraft, End, Kind, NO_TEXT, PutBack, Record, Story, end_bars, keep,
     text_of_number,
 };
-use lab_words::{CallCode, Code, Form, form_of, text_of};
 use script_model::NoMemory;
 use text_words::{number_of, put, word_at};
 
 /// The most levels of a call.
 const LEVELS: u32 = 4;
+
+/// Where a reader stands: at which event, which number that has among the lines that were written,
+/// and whether it is a chosen one.
+#[derive(Clone, Copy)]
+pub struct Moment {
+    pub event: u32,
+    pub number: u32,
+    pub is_shown: bool,
+}
 
 /// The number that the k-th word of a line says; 0 where it says none.
 pub fn number_at(line: &[u8], k: usize) -> u32
@@ -67,10 +75,25 @@ fn behind_space(text: &[u8]) -> &[u8]
     }
 }
 
-/// Says what became of an event that is no call.
-fn note_column<'a>(columns: &mut [Column<'a>], text: &'a [u8]) {
+/// Says what became of an event that is no call, where the line is one of that event.
+fn note_column<'a>(columns: &mut [Column<'a>], at: Moment, number: u32, text: &'a [u8]) {
     if let [.., last] = columns {
-        last.result = text;
+        if last.event == at.event && at.number == number && !last.is_call {
+            last.result = text;
+        }
+    }
+}
+
+/// Counts the instructions that an event took.
+fn note_ran(columns: &mut [Column], at: Moment, line: &[u8]) {
+    if let [.., last] = columns {
+        if last.event == at.event {
+            let ran = number_at(line, 2);
+            last.ran = match last.ran {
+                Some(before) => Some(before.saturating_add(ran)),
+                None => Some(ran),
+            };
+        }
     }
 }
 
@@ -97,22 +120,22 @@ fn note_result(bars: &mut [Bar], call: u32, said: usize)
     }
 }
 
-/// A call ended, with all its levels.
+/// A call ended, with all its levels, and this is said of it.
 fn end_call<'a>(
     story: &mut Story<'a>,
-    event: u32,
-    line: &'a [u8],
+    at: Moment,
+    call: u32,
+    text: &'a [u8],
     end: End,
 ) -> Result<(), NoMemory> {
-    let call = number_at(line, 0);
-    if process_of(&story.bars, call).is_none() {
-        note_column(&mut story.columns, from_word(line, 1));
+    if process_of(&story.in_flight, call).is_none() {
+        note_column(&mut story.columns, at, call, text);
         return Ok(());
     }
-    let said = keep(story, from_word(line, 1))?;
-    note_result(&mut story.bars, call, said);
-    end_bars(&mut story.bars, call, 1, event, End::Done);
-    end_bars(&mut story.bars, call, 0, event, end);
+    let said = keep(story, text)?;
+    note_result(&mut story.in_flight, call, said);
+    end_bars(&mut story.in_flight, call, 1, at.event, End::Done);
+    end_bars(&mut story.in_flight, call, 0, at.event, end);
     Ok(())
 }
 
@@ -139,7 +162,13 @@ fn level_of_graft(bars: &[Bar], texts: &[&[u8]], call: u32, graft: &[u8]) -> u32
 fn graft_in(line: &[u8]) -> &[u8]
     ensures { result.now ≡ spec.two_words (spec.from_word line.now 2) }
 {
-    let rest = from_word(line, 2);
+    two_words(from_word(line, 2))
+}
+
+/// The first two words of a text, as they stand there; all of it where it has fewer.
+fn two_words(rest: &[u8]) -> &[u8]
+    ensures { result.now ≡ spec.two_words rest.now }
+{
     let first = word_at(rest, 0).len();
     let second = word_at(rest, 1).len();
     let end = first.saturating_add(second).saturating_add(1);
@@ -151,25 +180,23 @@ fn graft_in(line: &[u8]) -> &[u8]
 }
 
 /// A graft was dropped.
-fn drop_graft<'a>(
-    story: &mut Story<'a>,
-    event: u32,
-    code: Code,
-    line: &'a [u8],
-) -> Result<(), NoMemory> {
+fn drop_graft<'a>(story: &mut Story<'a>, at: Moment, line: &'a [u8]) -> Result<(), NoMemory> {
     let call = number_at(line, 0);
-    let Some(process) = process_of(&story.bars, call) else {
+    let Some(process) = process_of(&story.in_flight, call) else {
         return Ok(());
     };
-    let level = level_of_graft(&story.bars, &story.texts, call, graft_in(line));
-    end_bars(&mut story.bars, call, level, event, End::Dropped);
+    let level = level_of_graft(&story.in_flight, &story.texts, call, graft_in(line));
+    end_bars(&mut story.in_flight, call, level, at.event, End::Dropped);
+    if !at.is_shown {
+        return Ok(());
+    }
     put(
         &mut story.drops,
         DroppedGraft {
-            event,
+            event: at.event,
             process,
             level,
-            code: text_of(code),
+            code: word_at(line, 4),
             line,
         },
     )?;
@@ -208,31 +235,50 @@ fn put_back(story: &mut Story, process: u32, level: u32) -> Result<(), NoMemory>
     put_records(&mut story.put_back, &story.records, place, process, level)
 }
 
+/// Whether a call waits already, and for this: it is told again then.
+fn waits_so(story: &Story, call: u32, arrow: &Arrow) -> bool {
+    let is_waiting = story.in_flight.iter().any(|bar| {
+        bar.call == call && bar.kind == Kind::Wait && bar.end == End::Open
+    });
+    if !is_waiting {
+        return false;
+    }
+    let mut is_same = true;
+    for other in &story.arrows {
+        if other.from == arrow.from {
+            is_same = other.object == arrow.object && other.to == arrow.to;
+        }
+    }
+    is_same
+}
+
 /// A call waits: a bar and an arrow.
-fn begin_wait<'a>(story: &mut Story<'a>, event: u32, line: &'a [u8]) -> Result<(), NoMemory> {
+fn begin_wait<'a>(story: &mut Story<'a>, at: Moment, line: &'a [u8]) -> Result<(), NoMemory> {
     let call = number_at(line, 0);
-    let Some(process) = process_of(&story.bars, call) else {
+    let Some(process) = process_of(&story.in_flight, call) else {
         return Ok(());
     };
-    let object = word_at(line, 2);
-    end_bars(&mut story.bars, call, LEVELS + 1, event, End::Done);
+    let arrow = Arrow {
+        event: at.event,
+        from: process,
+        to: number_at(line, 3),
+        object: word_at(line, 2),
+    };
+    if waits_so(story, call, &arrow) {
+        return Ok(());
+    }
+    end_bars(&mut story.in_flight, call, LEVELS + 1, at.event, End::Done);
+    if at.is_shown {
+        put(&mut story.arrows, arrow)?;
+    }
     put(
-        &mut story.arrows,
-        Arrow {
-            event,
-            from: process,
-            to: number_at(line, 3),
-            object,
-        },
-    )?;
-    put(
-        &mut story.bars,
+        &mut story.in_flight,
         Bar {
             process,
             call,
             kind: Kind::Wait,
-            from: event,
-            to: event,
+            from: at.event,
+            to: at.event,
             end: End::Open,
             text: NO_TEXT,
             result: NO_TEXT,
@@ -278,7 +324,7 @@ fn begin_level<'a>(
         NO_TEXT
     };
     put(
-        &mut story.bars,
+        &mut story.in_flight,
         Bar {
             process,
             call: number_at(line, 0),
@@ -296,24 +342,24 @@ fn begin_level<'a>(
 fn run_graft<'a>(story: &mut Story<'a>, event: u32, line: &'a [u8]) -> Result<(), NoMemory> {
     let call = number_at(line, 0);
     let depth = number_at(line, 4).min(LEVELS);
-    let Some(process) = process_of(&story.bars, call) else {
+    let Some(process) = process_of(&story.in_flight, call) else {
         return Ok(());
     };
-    let ended = if runs_other(&story.bars, &story.texts, call, depth, graft_in(line)) {
+    let ended = if runs_other(&story.in_flight, &story.texts, call, depth, graft_in(line)) {
         depth
     } else {
         depth.saturating_add(1)
     };
-    end_bars(&mut story.bars, call, ended, event, End::Done);
+    end_bars(&mut story.in_flight, call, ended, event, End::Done);
     for level in 1..LEVELS + 1 {
-        if level <= depth && !is_open(&story.bars, call, level) {
+        if level <= depth && !is_open(&story.in_flight, call, level) {
             begin_level(story, event, line, process, level)?;
         }
     }
     Ok(())
 }
 
-/// A record of a raw row `N raw undo P D ..` is remembered.
+/// A row of `raw`, behind its first two words: a record is remembered, and a level is named.
 fn read_raw<'a>(story: &mut Story<'a>, line: &'a [u8]) -> Result<(), NoMemory> {
     match word_at(line, 2) {
         b"clock" => {
@@ -321,8 +367,55 @@ fn read_raw<'a>(story: &mut Story<'a>, line: &'a [u8]) -> Result<(), NoMemory> {
             Ok(())
         }
         b"undo" => read_record(story, from_word(line, 3)),
+        b"level" => read_level(story, line),
         _ => Ok(()),
     }
+}
+
+/// Whether a bar is an open one of a level of a process that names no graft.
+fn is_nameless(bar: &Bar, process: u32, level: u32) -> bool
+    ensures { result ≡ bars_of.is_nameless process level bar.now }
+{
+    bar.process == process
+        && bar.end == End::Open
+        && bar.kind == Kind::Level(level)
+        && bar.text == NO_TEXT
+}
+
+/// A bar that names a graft, where it is a nameless one of this level.
+fn named(bar: Bar, process: u32, level: u32, text: usize) -> Bar
+    ensures { result ≡ bars_of.named process level text bar }
+{
+    if is_nameless(&bar, process, level) {
+        Bar { text, ..bar }
+    } else {
+        bar
+    }
+}
+
+/// Names the graft of the nameless bars of a level of a process.
+fn name_level(bars: &mut [Bar], process: u32, level: u32, text: usize)
+    ensures { bars.new ≡ map (bars_of.named process level text) bars.old }
+{
+    for bar in bars.iter_mut() {
+        *bar = named(*bar, process, level, text);
+    }
+}
+
+/// A row `N raw level P D Q PT S` names the graft of a level; levels are counted from 0 there.
+fn read_level<'a>(story: &mut Story<'a>, line: &'a [u8]) -> Result<(), NoMemory> {
+    let process = number_at(line, 3);
+    let level = number_at(line, 4).saturating_add(1);
+    if !story
+        .in_flight
+        .iter()
+        .any(|bar| is_nameless(bar, process, level))
+    {
+        return Ok(());
+    }
+    let text = keep(story, two_words(from_word(line, 5)))?;
+    name_level(&mut story.in_flight, process, level, text);
+    Ok(())
 }
 
 /// A record `P D I` is remembered.
@@ -341,44 +434,36 @@ fn read_record<'a>(story: &mut Story<'a>, text: &'a [u8]) -> Result<(), NoMemory
     )
 }
 
-/// What a line of a form adds.
-fn read_form<'a>(
-    story: &mut Story<'a>,
-    event: u32,
-    form: Form,
-    line: &'a [u8],
-) -> Result<(), NoMemory> {
-    match form {
-        Form::Done | Form::Answered => end_call(story, event, line, End::Done),
-        Form::Loaded => {
-            note_column(&mut story.columns, from_word(line, 2));
-            Ok(())
-        }
-        Form::Coded(Code::Call(_)) | Form::Coded(Code::Image(_)) => {
-            end_call(story, event, line, End::Refused)
-        }
-        Form::Coded(Code::Drop(code)) => drop_graft(story, event, Code::Drop(code), line),
-        Form::Ticked => {
-            note_column(&mut story.columns, word_at(line, 2));
-            Ok(())
-        }
-        Form::Ran => {
-            note_column(&mut story.columns, from_word(line, 1));
-            Ok(())
-        }
-        Form::Waits => begin_wait(story, event, line),
-        Form::InGraft => run_graft(story, event, line),
-        _ => Ok(()),
+/// Whether a word is the code of a refused call or of a refused image.
+fn is_refusal(word: &[u8]) -> bool {
+    match word {
+        [first, digits @ ..] => (*first == b'E' || *first == b'L') && number_of(digits).is_some(),
+        _ => false,
     }
 }
 
-/// What a written line adds.
-pub fn read_line<'a>(story: &mut Story<'a>, event: u32, line: &'a [u8]) -> Result<(), NoMemory> {
-    if word_at(line, 1) == b"raw".as_slice() {
-        return read_raw(story, line);
-    }
-    match form_of(line) {
-        Some(form) => read_form(story, event, form, line),
-        None => Ok(()),
+/// What a written line adds. Its second word says what it is; a refused line of the script has its code
+/// as the third.
+pub fn read_line<'a>(story: &mut Story<'a>, at: Moment, line: &'a [u8]) -> Result<(), NoMemory> {
+    let call = number_at(line, 0);
+    match word_at(line, 1) {
+        b"raw" => read_raw(story, line),
+        b"ok" => end_call(story, at, call, from_word(line, 1), End::Done),
+        b"drop" => drop_graft(story, at, line),
+        b"waits" => begin_wait(story, at, line),
+        b"graft" => run_graft(story, at.event, line),
+        b"tick" => {
+            note_column(&mut story.columns, at, call, word_at(line, 2));
+            Ok(())
+        }
+        b"ran" => {
+            note_ran(&mut story.columns, at, line);
+            Ok(())
+        }
+        word if is_refusal(word) => { end_call(story, at, call, from_word(line, 1), End::Refused) }
+        _ if word_at(line, 0) == b"script".as_slice() => {
+            end_call(story, at, at.number, word_at(line, 2), End::Refused)
+        }
+        _ => Ok(()),
     }
 }

@@ -109,18 +109,24 @@ pub struct PutBack<'a> {
 pub struct Column<'a> {
     /// The number of the event, from 1.
     pub event: u32,
-    /// Its line of the script.
+    /// Its line, as the file says it.
     pub line: &'a [u8],
-    /// What became of it, where it is no call.
+    /// Whether it is a call, which has a bar.
+    pub is_call: bool,
+    /// What became of one that is no call, if that is told.
     pub result: &'a [u8],
+    /// How many instructions it took, where it takes some.
+    pub ran: Option<u32>,
 }
 
-/// All of a run that is drawn.
+/// A run, or a part of it.
 #[derive(Drop)]
 pub struct Story<'a> {
-    /// The bars, in the order in which they begin.
+    /// The bars of calls that haven't ended.
+    pub in_flight: Vec<Bar>,
+    /// The bars that ended, as far as they reach into the chosen events.
     pub bars: Vec<Bar>,
-    /// The texts of bars.
+    /// The texts that bars name by their numbers.
     pub texts: Vec<&'a [u8]>,
     /// The dropped grafts.
     pub drops: Vec<DroppedGraft<'a>>,
@@ -140,6 +146,7 @@ impl<'a> Story<'a> {
         ensures { IsEmpty result }
     {
         Story {
+            in_flight: Vec::new(alloc),
             bars: Vec::new(alloc),
             texts: Vec::new(alloc),
             drops: Vec::new(alloc),
@@ -236,4 +243,41 @@ pub fn level_of(kind: Kind) -> u32
         Kind::Wait => WAIT_LEVEL,
         Kind::Level(level) => level,
     }
+}
+
+/// Bars that ended leave those of calls in flight; of them those are kept that reach to the first
+/// chosen event.
+fn set_aside(in_flight: &mut Vec<Bar>, bars: &mut Vec<Bar>, first: u32) -> Result<(), NoMemory> {
+    let mut at = 0;
+    for _ in 0..in_flight.len() {
+        if at < in_flight.len() {
+            if is_open(in_flight[at].end) {
+                at += 1;
+            } else {
+                let bar = in_flight.remove(at);
+                if bar.to >= first {
+                    put(bars, bar)?;
+                }
+            }
+        }
+    }
+    Ok(())
+}
+
+/// All bars of calls in flight are put behind those that ended.
+fn set_all_aside(in_flight: &[Bar], bars: &mut Vec<Bar>) -> Result<(), NoMemory> {
+    for bar in in_flight {
+        put(bars, *bar)?;
+    }
+    Ok(())
+}
+
+/// What ended is put aside, as far as it reaches to the first chosen event.
+pub fn put_aside(story: &mut Story, first: u32) -> Result<(), NoMemory> {
+    set_aside(&mut story.in_flight, &mut story.bars, first)
+}
+
+/// All bars are put aside.
+pub fn put_all_aside(story: &mut Story) -> Result<(), NoMemory> {
+    set_all_aside(&story.in_flight, &mut story.bars)
 }
