@@ -8,6 +8,7 @@ use crate::picture::picture;
 use crate::run::{Telling, run_files};
 use crate::script::script;
 use crate::test::test;
+use crate::trace::trace;
 use crate::watch::watch;
 use crate::why::why_event;
 use kernel_data::NoMemory;
@@ -134,6 +135,7 @@ fn obey_command(rt: &HostRuntime, name: &str, words: &[String]) -> u8 {
         ("help", [command]) => help_of(rt, command.as_str()),
         ("explain", _) => explain(rt, words),
         ("picture", _) => picture(rt, words),
+        ("trace", _) => trace(rt, words),
         _ => match read(rt.alloc(), words) {
             Ok(given) => obey_given(rt, name, &given),
             Err(_) => NO_MEMORY,

@@ -1,5 +1,7 @@
 //! What the program ends with, and the streams that it writes.
 
+ghost use Rattle.std.specs.Prelude.{◌≡◌, ◌≤◌, ◌⊎◌};
+
 use std::fs::OpenOptions;
 use std::io;
 use std::io::{ErrorKind, Write};
@@ -23,7 +25,9 @@ pub const NO_MEMORY: u8 = 5;
 pub const TOO_LONG: u8 = 7;
 
 /// Writes bytes to the standard output: this status, or that of a failed output, of which it tells.
-pub fn write_out(rt: &HostRuntime, bytes: &[u8], status: u8) -> u8 {
+pub fn write_out(rt: &HostRuntime, bytes: &[u8], status: u8) -> u8
+    ensures { (result ≡ status) ⊎ (result ≡ 4) }
+{
     match rt.stdout().write_all(bytes) {
         Ok(()) => status,
         Err(fault) => output_failed(rt, &fault),
@@ -31,7 +35,9 @@ pub fn write_out(rt: &HostRuntime, bytes: &[u8], status: u8) -> u8 {
 }
 
 /// Tells that the output failed: the status.
-pub fn output_failed(rt: &HostRuntime, fault: &io::Error) -> u8 {
+pub fn output_failed(rt: &HostRuntime, fault: &io::Error) -> u8
+    ensures { result ≡ 4 }
+{
     let _ = eprintln!(rt; "lab: the output can't be written: {fault}");
     OUTPUT_FAILED
 }
@@ -42,7 +48,9 @@ pub fn write_error(rt: &HostRuntime, bytes: &[u8]) {
 }
 
 /// Tells that an input of this name can't be read: the status.
-pub fn unreadable(rt: &HostRuntime, path: &str, fault: &io::Error) -> u8 {
+pub fn unreadable(rt: &HostRuntime, path: &str, fault: &io::Error) -> u8
+    ensures { 2 ≤ result }
+{
     match fault.kind() {
         ErrorKind::OutOfMemory => return NO_MEMORY,
         ErrorKind::NotFound => {

@@ -1,5 +1,8 @@
 //! Lab files, opened.
 
+ghost use Rattle.std.specs.Prelude.{◌≤◌, IfOk, IfErr};
+ghost use Rattle.lab_lowering.specs.Lowering.{Lowers};
+
 use crate::edge::{NO_MEMORY, REFUSED, TOO_LONG, unreadable, write_error};
 use lab_lowering::{LabFault, Lowered, lower};
 use std::fs::File;
@@ -31,7 +34,11 @@ fn read_bytes(rt: &HostRuntime, path: &str) -> io::Result<Vec<u8>> {
 }
 
 /// Reads a lab file and lowers it; or tells why it is refused, and gives the status.
-pub fn open(rt: &HostRuntime, path: &str) -> Result<Opened, u8> {
+pub fn open(rt: &HostRuntime, path: &str) -> Result<Opened, u8>
+    ensures ok { IfOk result (λ o. Lowers o.text.items o.lowered.lab o.lowered.images.items
+        o.lowered.script.items) }
+    ensures err { IfErr result (λ status. 2 ≤ status) }
+{
     let text = match read_bytes(rt, path) {
         Ok(text) => text,
         Err(fault) => return Err(unreadable(rt, path, &fault)),
@@ -43,7 +50,9 @@ pub fn open(rt: &HostRuntime, path: &str) -> Result<Opened, u8> {
 }
 
 /// Tells why a file is refused: the status.
-fn refuse(rt: &HostRuntime, path: &str, text: &[u8], fault: LabFault) -> u8 {
+fn refuse(rt: &HostRuntime, path: &str, text: &[u8], fault: LabFault) -> u8
+    ensures { 2 ≤ result }
+{
     match lab_faults::tell_fault(rt.alloc(), path.as_bytes(), text, fault) {
         Ok(sentence) => {
             write_error(rt, sentence.as_slice());

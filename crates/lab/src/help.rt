@@ -44,6 +44,13 @@ const PICTURE: &[u8] = b"lab picture FILE [--from N] [--to N]
     --to N       up to this event
 ";
 
+const TRACE: &[u8] = b"lab trace FILE [--from N] [--to N]
+    the run as JSON Lines, an object for each moment: what was written and what
+    changed in the state; docs/TRACE.md says what each field has
+    --from N     from this moment on
+    --to N       up to this moment
+";
+
 const EXPLAIN: &[u8] = b"lab explain CODE.. , lab explain --all
     what codes, or a written line, mean; the page of all codes
 ";
@@ -70,20 +77,24 @@ fn said_of(command: &str) -> Option<&'static [u8]> {
         "watch" => Some(WATCH),
         "why" => Some(WHY),
         "picture" => Some(PICTURE),
+        "trace" => Some(TRACE),
         "explain" => Some(EXPLAIN),
         "help" => Some(HELP),
         _ => None,
     }
 }
 
+/// What a command without options takes.
+const NO_OPTIONS: &[&str] = &[];
+
 /// The options of a command.
 pub fn options_of(command: &str) -> &'static [&'static str] {
     match command {
         "run" => ["--plain", "--raw-heads", "--disk"].as_slice(),
         "script" => ["--key"].as_slice(),
-        "picture" => ["--from", "--to"].as_slice(),
+        "picture" | "trace" => ["--from", "--to"].as_slice(),
         "explain" => ["--all"].as_slice(),
-        _ => [].as_slice(),
+        _ => NO_OPTIONS,
     }
 }
 
@@ -91,7 +102,7 @@ pub fn options_of(command: &str) -> &'static [&'static str] {
 pub fn help(rt: &HostRuntime) -> u8 {
     let mut status = 0;
     for part in [
-        HEAD, RUN, TEST, SCRIPT, BOX, WATCH, WHY, PICTURE, EXPLAIN, HELP, FOOT,
+        HEAD, RUN, TEST, SCRIPT, BOX, WATCH, WHY, PICTURE, TRACE, EXPLAIN, HELP, FOOT,
     ] {
         if status == 0 {
             status = write_out(rt, part, 0);

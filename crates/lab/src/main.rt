@@ -13,6 +13,7 @@ mod run;
 mod script;
 mod stock;
 mod test;
+mod trace;
 mod watch;
 mod why;
 

@@ -1,8 +1,12 @@
 //! `lab run`.
 
+ghost use Rattle.std.specs.Prelude.{◌≡◌};
+ghost use Rattle.lab.specs.Tested.{status_told};
+
 use crate::colour::{coloured, is_coloured};
 use crate::edge::{NO_MEMORY, OUTPUT_FAILED, REFUSED, write_error, write_out};
 use crate::files::{Opened, open};
+use crate::picture::ALL_EVENTS;
 use crate::stock::run_lab;
 use kernel_data::NoMemory;
 use lab_faults::tell_word;
@@ -58,7 +62,9 @@ fn run_file(rt: &HostRuntime, path: &str, telling: Telling, disk: Option<&str>) 
 }
 
 /// The status of the program after a run: a sink in memory fails for want of memory.
-pub fn status_of(ran: &Ran) -> u8 {
+pub fn status_of(ran: &Ran) -> u8
+    ensures { result ≡ status_told ran.now.status }
+{
     if ran.status == OUTPUT_FAILED {
         NO_MEMORY
     } else {
@@ -90,7 +96,7 @@ fn run_opened(
 }
 
 /// Tells which word of the last written line's line is refused, and what could stand there.
-fn tell_refused(
+pub fn tell_refused(
     rt: &HostRuntime,
     path: &str,
     opened: &Opened,
@@ -149,7 +155,7 @@ pub fn spent_causes(
     if !is_sample || !has_spent(ran.lines.bytes()) {
         return Ok(Vec::new(rt.alloc()));
     }
-    let slow = slow_script(rt.alloc(), lowered.script.as_slice())?;
+    let slow = slow_script(rt.alloc(), lowered.script.as_slice(), ALL_EVENTS)?;
     let script = std::mem::replace(&mut lowered.script, slow);
     let slowly = run_lab(rt, lowered, None);
     lowered.script = script;

@@ -1,5 +1,8 @@
 //! Runs over the stock policies and the disk that a lab file asks for.
 
+ghost use Rattle.std.specs.Prelude.{IfOk, OnOk};
+ghost use Rattle.lab.specs.Tested.{WasRun};
+
 use crate::edge::tell_disk;
 use graft_points::{
     Policy, RaNext, RaNone, RaSeq, SchedNice, SchedRound, VictimLru, VictimMark, is_stock, put_last,
@@ -13,7 +16,10 @@ use std::alloc::{AllocError, Global};
 
 /// Runs the script of a lab file, over the file of this name as the disk where there is one, else
 /// over the disk that the lab file asks for.
-pub fn run_lab(rt: &HostRuntime, lowered: &Lowered, disk: Option<&str>) -> Result<Ran, NoMemory> {
+pub fn run_lab(rt: &HostRuntime, lowered: &Lowered, disk: Option<&str>) -> Result<Ran, NoMemory>
+    ensures { IfOk result (λ ran.
+        WasRun lowered.now.lab.settings.word lowered.now.script.items ran) }
+{
     let named = match lowered.lab.settings().disk() {
         Some(path) => str::from_utf8(path.bytes()).ok(),
         None => None,
@@ -40,7 +46,10 @@ fn memory_disk(alloc: Global, lab: &Lab) -> Result<MemDisk, NoMemory> {
 }
 
 /// Runs the script of a lab file over a disk and the stock policies.
-fn run_over<D: Disk>(alloc: Global, lowered: &Lowered, disk: &mut D) -> Result<Ran, NoMemory> {
+fn run_over<D: Disk>(alloc: Global, lowered: &Lowered, disk: &mut D) -> Result<Ran, NoMemory>
+    ensures { IfOk result (λ ran.
+        WasRun lowered.now.lab.settings.word lowered.now.script.items ran) }
+{
     match run_stock(alloc, lowered, disk) {
         Ok(ran) => ran,
         Err(_) => Err(NoMemory),
@@ -52,7 +61,10 @@ fn run_stock<D: Disk>(
     alloc: Global,
     lowered: &Lowered,
     disk: &mut D,
-) -> Result<Result<Ran, NoMemory>, AllocError> {
+) -> Result<Result<Ran, NoMemory>, AllocError>
+    ensures { IfOk result (λ made. IfOk made (λ ran.
+        WasRun lowered.now.lab.settings.word lowered.now.script.items ran)) }
+{
     let script = Vec::from_slice(alloc, lowered.script.as_slice())?;
     let mut shelf: Vec<Box<dyn Policy>> = Vec::new(alloc);
     put_last(&mut shelf, Box::new(alloc, RaNone::new())?, 0, None)?;
@@ -65,7 +77,10 @@ fn run_stock<D: Disk>(
     if !is_stock(&shelf) {
         unreachable!()
     }
-    let keys = str::from_utf8(lowered.lab.settings().word()).unwrap_or("");
+    // A word of a lab file is UTF-8, so this is always one.
+    let Ok(keys) = str::from_utf8(lowered.lab.settings().word()) else {
+        return Ok(Err(NoMemory));
+    };
     Ok(run_script(alloc, keys, script, disk, shelf))
 }
 

@@ -1,11 +1,15 @@
 //! `lab test`.
 
+ghost use Rattle.std.specs.Prelude.{◌≡◌, ◌≤◌, ◌⊎◌, length, IfOk};
+ghost use Rattle.lab_lines.specs.AsWanted.{WantsInOrder};
+ghost use Rattle.lab.specs.Tested.{WroteWanted, WroteOther, Adds, AllPass, OneFails};
+
 use crate::edge::{NO_MEMORY, REFUSED, UNWANTED, output_failed, write_out};
 use crate::files::open;
 use crate::run::status_of;
 use crate::stock::run_lab;
 use kernel_data::NoMemory;
-use lab_lines::{compare, pieces_of};
+use lab_lines::{compare, in_order, pieces_of};
 use lab_lowering::Lowered;
 
 /// How many files passed and failed, and the status so far.
@@ -17,7 +21,11 @@ struct Count {
 }
 
 /// One more file that failed.
-fn failed(count: Count, status: u8) -> Count {
+fn failed(count: Count, status: u8) -> Count
+    ensures least { count.status ≤ result.status }
+    ensures counts { status ≤ result.status }
+    ensures no_more { (result.status ≡ count.status) ⊎ (result.status ≡ status) }
+{
     Count {
         passed: count.passed,
         failed: count.failed.saturating_add(1),
@@ -26,7 +34,9 @@ fn failed(count: Count, status: u8) -> Count {
 }
 
 /// One more file that passed.
-fn passed(count: Count) -> Count {
+fn passed(count: Count) -> Count
+    ensures { result.status ≡ count.status }
+{
     Count {
         passed: count.passed.saturating_add(1),
         failed: count.failed,
@@ -34,8 +44,15 @@ fn passed(count: Count) -> Count {
     }
 }
 
-/// Compares the wanted lines of files with those that they write: the status.
-pub fn test(rt: &HostRuntime, paths: &[&str]) -> u8 {
+#[tactic(auto, using(crate::proofs::Judging::says_nothing))]
+/// Compares the wanted lines of files with those that their runs write, and tells what differs: the
+/// status, 0 where all is as wanted.
+pub fn test(rt: &HostRuntime, paths: &[&str]) -> u8
+    // It is 0 only where the run of each file wrote what is wanted.
+    ensures passed { result ≡ 0 → AllPass (length paths.now) }
+    // It is 1 only where the run of one didn't.
+    ensures failed { result ≡ 1 → OneFails }
+{
     let mut count = Count {
         passed: 0,
         failed: 0,
@@ -48,7 +65,9 @@ pub fn test(rt: &HostRuntime, paths: &[&str]) -> u8 {
 }
 
 /// The closing line.
-fn write_count(rt: &HostRuntime, count: Count) -> u8 {
+fn write_count(rt: &HostRuntime, count: Count) -> u8
+    ensures { (result ≡ count.status) ⊎ (result ≡ 4) }
+{
     let passed = count.passed;
     let failed = count.failed;
     match println!(rt; "{passed} passed, {failed} failed") {
@@ -57,7 +76,11 @@ fn write_count(rt: &HostRuntime, count: Count) -> u8 {
     }
 }
 
-fn test_file(rt: &HostRuntime, path: &str, count: Count) -> Count {
+#[tactic(auto, using(crate::proofs::Judging::adds_passed))]
+/// Tests one more file.
+fn test_file(rt: &HostRuntime, path: &str, count: Count) -> Count
+    ensures { Adds count.status result.status }
+{
     match open(rt, path) {
         Err(status) => failed(count, status),
         Ok(opened) => match test_lab(rt, path, &opened.lowered) {
@@ -68,15 +91,23 @@ fn test_file(rt: &HostRuntime, path: &str, count: Count) -> Count {
     }
 }
 
-/// Compares the wanted lines of a file: 0 where all came and no other.
-fn test_lab(rt: &HostRuntime, path: &str, lowered: &Lowered) -> Result<u8, NoMemory> {
+/// Compares the wanted lines of a file with those that its run writes: 0 where all came and no
+/// other, 1 where something differs.
+fn test_lab(rt: &HostRuntime, path: &str, lowered: &Lowered) -> Result<u8, NoMemory>
+    requires wants { WantsInOrder lowered.now.lab.sheet.wants }
+    ensures passed { IfOk result (λ status. status ≡ 0 →
+        WroteWanted lowered.now.lab lowered.now.script.items) }
+    ensures failed { IfOk result (λ status. status ≡ 1 →
+        WroteOther lowered.now.lab lowered.now.script.items) }
+{
     let ran = run_lab(rt, lowered, None)?;
     let status = status_of(&ran);
     if status != 0 && status != REFUSED {
-        return Ok(status);
+        return Ok(status.max(REFUSED));
     }
-    let pieces = pieces_of(rt.alloc(), lowered.script.as_slice(), &ran.lines)?;
     let sheet = lowered.lab.sheet();
+    let pieces = pieces_of(rt.alloc(), lowered.script.as_slice(), &ran.lines)?;
+    let pieces = in_order(rt.alloc(), sheet.last(), pieces.as_slice())?;
     let told = compare(rt.alloc(), path.as_bytes(), sheet, pieces.as_slice())?;
     let status = if told.differences == 0 { 0 } else { UNWANTED };
     Ok(write_out(rt, told.text.as_slice(), status))

@@ -50,7 +50,7 @@ written_as_texts owner last (p ∷ ps) =
 
 -- ---- their order
 
-raise : (from to : ℕ) (ns : List ℕ) → from ≤ to → AreInOrder to ns → AreInOrder from ns
+pub raise : (from to : ℕ) (ns : List ℕ) → from ≤ to → AreInOrder to ns → AreInOrder from ns
 raise from to [] le h = tt
 raise from to (n ∷ ns) le h = (omega arith, h.1)
 

@@ -8,7 +8,7 @@ mod testing;
 mod text;
 mod written;
 
-pub use crate::pieces::{Piece, pieces_of};
+pub use crate::pieces::{Piece, in_order, pieces_of};
 pub use crate::sink::LineSink;
 pub use crate::telling::{Aids, told};
 pub use crate::testing::{Compared, compare, is_wanted};

@@ -1,8 +1,10 @@
 //! Which line of a script wrote what.
 
-ghost use Rattle.std.specs.Prelude.{◌≡◌, ◌≤◌, ◌++◌, length, slice_range, true, IfOk, OnOk};
+ghost use Rattle.std.specs.Prelude.{◌≡◌, ◌≤◌, ◌++◌, ◌∷◌, [], length, map, slice_range, true, IfOk, OnOk};
+ghost use Rattle.lab_lines.specs.AsWanted.{PiecesInOrder};
 ghost use Rattle.lab_lines.specs.Told as spec;
 ghost use Rattle.lab_lines.specs.Told.{lines_in, lines_of};
+ghost use Rattle.lab_lines.specs.Written as written;
 
 use crate::sink::LineSink;
 use kernel_data::NoMemory;
@@ -92,11 +94,12 @@ fn is_piece(text: &[u8], from: usize, to: usize) -> bool
 
 #[tactic(auto, using(crate::proofs::Lines::one_more))]
 /// Puts a piece behind others.
-fn put<'a>(pieces: &mut Vec<Piece<'a>>, owner: usize, bytes: &'a [u8]) -> Result<(), NoMemory>
-    ensures { OnOk result (lines_in pieces.new.items
-        ≡ lines_in pieces.old.items ++ lines_of bytes.now) }
+fn put<'a>(pieces: &mut Vec<Piece<'a>>, piece: Piece<'a>) -> Result<(), NoMemory>
+    ensures one { OnOk result (pieces.new.items ≡ pieces.old.items ++ piece.entry ∷ []) }
+    ensures lines { OnOk result (lines_in pieces.new.items
+        ≡ lines_in pieces.old.items ++ lines_of piece.entry.bytes.now) }
 {
-    match pieces.push(Piece { owner, bytes }) {
+    match pieces.push(piece) {
         Ok(()) => Ok(()),
         Err(_) => Err(NoMemory),
     }
@@ -124,12 +127,51 @@ pub fn pieces_of<'a>(
         if is_piece(text, from, *to) {
             let bytes = &text[from..*to];
             let owner = owner_of(bytes, &mut ahead);
-            put(&mut pieces, owner, bytes)?;
+            put(&mut pieces, Piece { owner, bytes })?;
             from = *to;
         }
     }
     if from < text.len() {
-        put(&mut pieces, 0, &text[from..])?;
+        let bytes = &text[from..];
+        put(&mut pieces, Piece { owner: 0, bytes })?;
     }
     Ok(pieces)
+}
+
+/// The line of the script to which a piece belongs: the end of a run belongs to the last one.
+pub(crate) fn writer(last: usize, piece: &Piece) -> usize
+    ensures { result ≡ written.writer last piece.now }
+{
+    if piece.owner == 0 { last } else { piece.owner }
+}
+
+#[tactic(auto, using(crate::proofs::Ordered::none_yet, crate::proofs::Ordered::one_more_of, crate::proofs::Ordered::all_ordered, crate::proofs::Ordered::ends_in_order, crate::proofs::Ordered::ends_kept))]
+/// The same pieces, none of which belongs to a line before that of the piece before it. `last` is
+/// the line to which the end of the run belongs.
+pub fn in_order<'a>(
+    alloc: Global,
+    last: usize,
+    pieces: &[Piece<'a>],
+) -> Result<Vec<Piece<'a>>, NoMemory>
+    // They are in the order of the lines of the script.
+    ensures ordered { IfOk result (λ ordered. PiecesInOrder 1 last ordered.items) }
+    // Their lines are the same.
+    ensures lines { IfOk result (λ ordered. lines_in ordered.items ≡ lines_in pieces.now) }
+    // Pieces that are in this order belong to the same lines as before.
+    ensures kept { IfOk result (λ ordered. PiecesInOrder 1 last pieces.now →
+        map (written.writer last) ordered.items ≡ map (written.writer last) pieces.now) }
+{
+    let mut ordered = Vec::new(alloc);
+    let mut from = 1;
+    for piece in pieces {
+        from = from.max(writer(last, piece));
+        put(
+            &mut ordered,
+            Piece {
+                owner: from,
+                ..*piece
+            },
+        )?;
+    }
+    Ok(ordered)
 }

@@ -4,7 +4,7 @@ ghost use Rattle.std.specs.Prelude.{◌≡◌, ◌++◌, map, OnOk, IfOk};
 ghost use Rattle.lab_lines.specs.Told.{lines_of};
 ghost use Rattle.lab_lines.specs.Written as spec;
 
-use crate::pieces::Piece;
+use crate::pieces::{Piece, writer};
 use kernel_data::NoMemory;
 use std::alloc::Global;
 use std::marker::Model;
@@ -46,13 +46,6 @@ fn put_lines<'a>(out: &mut Vec<Wrote<'a>>, owner: usize, piece: &'a [u8]) -> Res
         put(out, owner, line)?;
     }
     Ok(())
-}
-
-/// The line of the script to which a piece belongs: the end of a run belongs to the last one.
-fn writer(last: usize, piece: &Piece) -> usize
-    ensures { result ≡ spec.writer last piece.now }
-{
-    if piece.owner == 0 { last } else { piece.owner }
 }
 
 /// All lines that were written.

@@ -1,0 +1,2 @@
+mod WantsOrder
+mod Judging
