@@ -1,0 +1,3 @@
+module vino/host
+
+go 1.19
