@@ -1,8 +1,11 @@
 -- A run that stops well hangs on the words that it touched, and on no others.
-use Rattle.std.proofs.Common.{◌≤◌, ◌<◌, arith, ◌≡◌, ℕ, zero, suc, Bool, true, false, cond, not, List, [], ◌∷◌, ◌++◌, length}
+use Rattle.std.proofs.Common.{◌≤◌, ◌<◌, arith, ◌≡◌, ℕ, zero, suc, Bool, true, false, cond, not}
+use Rattle.std.proofs.Common.{List, [], ◌∷◌, ◌++◌, length}
 use Rattle.std.proofs.Common.{Option, None, Some, refl, sym, ap, subst, ◌∙◌, ◌⊎◌, inl, inr}
 use Rattle.std.specs.Prelude.{◌==◌, ◌||◌, nat_le, nat_lt, slice_get, slice_set}
-use Rattle.std.proofs.lemmas.Bool.{and_parts, and_from, or_parts, or_cases, or_from, or_right, cases_eq, eqb-true, ltb-true, le-leb, leb-true, leb-false, false_from_ne_true}
+use Rattle.std.proofs.lemmas.Bool.{and_parts, and_from, or_parts, or_cases, or_from, or_right}
+use Rattle.std.proofs.lemmas.Bool.{cases_eq, eqb-true, ltb-true, le-leb, leb-true, leb-false}
+use Rattle.std.proofs.lemmas.Bool.{false_from_ne_true}
 use Rattle.graft_code.specs.Machine.{Done}
 use Rattle.vino_host.specs.declared.Instruction.{Instruction}
 use Rattle.vino_host.specs.declared.Record.{Record}
@@ -11,9 +14,12 @@ use Rattle.vino_host.specs.declared.Stop.TheVariants as stop
 use Rattle.vino_host.specs.declared.Word.{Word}
 use Rattle.vino_host.specs.Codes.{BUSY, NO_RECORDS, BAD_ARGUMENT, NOT_CALLABLE}
 use Rattle.vino_host.specs.HostMachine.{host_step}
-use Rattle.vino_host.specs.HostRuns.{State, state, Ended, ended, Stops, after_word, answered, after_answer, after_done, host_run, with_r0}
-use Rattle.vino_host.specs.Tables.{Serves, Gives, Refuses, is_open_to, may_serve, is_held, is_full, taken, record_of, readings, serves_word, serves}
-use Rattle.host_laws.specs.Alone.{HasRecord, goes_well, seen, Agree, OwnsTouched, RecordsTouched, IsSameRun, RunsHangOnTheirWords}
+use Rattle.vino_host.specs.HostRuns.{State, state, Ended, ended, Stops, after_word, answered}
+use Rattle.vino_host.specs.HostRuns.{after_answer, after_done, host_run, with_r0}
+use Rattle.vino_host.specs.Tables.{Serves, Gives, Refuses, is_open_to, may_serve, is_held, is_full}
+use Rattle.vino_host.specs.Tables.{taken, record_of, readings, serves_word, serves}
+use Rattle.host_laws.specs.Alone.{HasRecord, goes_well, seen, Agree, OwnsTouched, RecordsTouched}
+use Rattle.host_laws.specs.Alone.{IsSameRun, RunsHangOnTheirWords}
 use Rattle.host_laws.proofs.Others.{get_other}
 use Rattle.host_laws.proofs.Readings.{get_same, readings_most, readings_has, readings_last, readings_beside}
 
@@ -31,7 +37,8 @@ has_last id k w (r ∷ rs) = inr (has_last id k w rs)
 not_gives : (c x : ℕ) (t : List Word) (q : List Record) → Refuses c ≡ Gives x t q → ⊥
 not_gives c x t q h = cc
 
-gives_grow : (number id k v : ℕ) (table : List Word) (records : List Record) (x : ℕ) (t : List Word) (q : List Record) (j : ℕ) →
+gives_grow : (number id k v : ℕ) (table : List Word) (records : List Record) (x : ℕ) (t : List Word)
+    (q : List Record) (j : ℕ) →
     serves number id k v table records ≡ Gives x t q → HasRecord j records → HasRecord j q
 gives_grow number id k v table records x t q j h has = by_word (slice_get table k) h
   where
@@ -54,7 +61,8 @@ gives_grow number id k v table records x t q j h has = by_word (slice_get table 
         elim o [ None ↦ Refuses BAD_ARGUMENT | Some w ↦ serves_word number id k v table records w ] ≡ Gives x t q →
         HasRecord j q
     by_word None h = absurd (not_gives BAD_ARGUMENT x t q h)
-    by_word (Some w) h = by_tests (may_serve number id k records w) (is_held number id k records w) (is_full records w) w h
+    by_word (Some w) h = by_tests (may_serve number id k records w) (is_held number id k records w)
+        (is_full records w) w h
 
 answer_grows : (number id : ℕ) (rest : State → Ended) (left : ℕ) (s : State) (j : ℕ) →
     ((q : State) → HasRecord j q.records → HasRecord j (rest q).state.records) → HasRecord j s.records →
@@ -81,7 +89,8 @@ done_grows : (number : ℕ) (rest : State → Ended) (left : ℕ) (d : Done) (s 
     ((q : State) → HasRecord j q.records → HasRecord j (rest q).state.records) → HasRecord j s.records →
     HasRecord j (after_done number rest left d s).state.records
 done_grows number rest left (Done.Went m) s j h has = h (state m s.table s.records) has
-done_grows number rest left (Done.Called id m) s j h has = answer_grows number id rest left (state m s.table s.records) j h has
+done_grows number rest left (Done.Called id m) s j h has = answer_grows number id rest left
+    (state m s.table s.records) j h has
 done_grows number rest left Done.Returned s j h has = has
 done_grows number rest left Done.DividedByZero s j h has = has
 done_grows number rest left (Done.Trapped code) s j h has = has
@@ -93,12 +102,14 @@ pub run_grows : (number : ℕ) (code : List Instruction) (n : ℕ) (s : State) (
 unfolding host_run
 run_grows number code zero s j has = has
 run_grows number code (suc n) s j has =
-    done_grows number (host_run number code n) n (host_step code s.machine) s j (λ q g. run_grows number code n q j g) has
+    done_grows number (host_run number code n) n (host_step code s.machine) s j
+    (λ q g. run_grows number code n q j g) has
 
 -- ---- one word
 
 -- the same word is given by another table that agrees on what is touched
-record IsServedSame (number id k v : ℕ) (touched : ℕ → Bool) (t other : List Word) (records : List Record) (x : ℕ) (q : List Record) : Type 0 where
+record IsServedSame (number id k v : ℕ) (touched : ℕ → Bool) (t other : List Word)
+    (records : List Record) (x : ℕ) (q : List Record) : Type 0 where
   table : List Word
   says : serves number id k v other records ≡ Gives x table q
   agree : Agree touched q t table
@@ -118,7 +129,8 @@ read_by n w = record { value = w.value; owner = w.owner; readers = n }
 
 serves_same : (number id k v : ℕ) (touched : ℕ → Bool) (table other : List Word) (records : List Record) (x : ℕ)
     (t : List Word) (q : List Record) → serves number id k v table records ≡ Gives x t q →
-    OwnsTouched number touched table → ((j : ℕ) → HasRecord j q → touched j ≡ true) → Agree touched records table other →
+    OwnsTouched number touched table → ((j : ℕ) → HasRecord j q → touched j ≡ true) →
+    Agree touched records table other →
     IsServedSame number id k v touched t other records x q
 serves_same number id k v touched table other records x t q h owns places agree = by_word (slice_get table k) refl h
   where
@@ -130,7 +142,8 @@ serves_same number id k v touched table other records x t q h owns places agree 
           | None ↦ Refuses BAD_ARGUMENT
           | Some y ↦ serves_word number id k v other records y
         ]) there
-        ∙ ap (λ (z : Bool). shape number id k v records w other z (is_held number id k records w) (is_full records w)) ea
+        ∙ ap (λ (z : Bool). shape number id k v records w other z (is_held number id k records w)
+        (is_full records w)) ea
         ∙ ap (λ (z : Bool). shape number id k v records w other a z (is_full records w)) eb
         ∙ ap (λ (z : Bool). shape number id k v records w other a b z) ec
 
@@ -154,7 +167,8 @@ serves_same number id k v touched table other records x t q h owns places agree 
         omega (arith, big, small, most)))
 
     by_tests : (a b c : Bool) (w : Word) → slice_get table k ≡ Some w → may_serve number id k records w ≡ a →
-        is_held number id k records w ≡ b → is_full records w ≡ c → shape number id k v records w table a b c ≡ Gives x t q →
+        is_held number id k records w ≡ b → is_full records w ≡ c → shape number id k v records w
+        table a b c ≡ Gives x t q →
         IsServedSame number id k v touched t other records x q
     by_tests false b c w at ea eb ec h = absurd (not_gives BUSY x t q h)
     by_tests true true c w at ea eb ec h =
@@ -198,23 +212,29 @@ serves_same number id k v touched table other records x t q h owns places agree 
               ∙ ap (λ (y : ℕ). Gives y (slice_set other k new) (records ++ record_of id k w ∷ [])) value
               ∙ ap (λ (ys : List Record). Gives x (slice_set other k new) ys) grown;
           agree = subst (λ (ys : List Record). Agree touched ys t (slice_set other k new)) grown
-              (subst (λ (u : List Word). Agree touched (records ++ record_of id k w ∷ []) u (slice_set other k new)) same
+              (subst (λ (u : List Word). Agree touched (records ++ record_of id k w ∷ []) u
+              (slice_set other k new)) same
               (λ j g. by_place j (cases_eq j k) there g));
           owns = subst (λ (u : List Word). OwnsTouched number touched u) same
               (λ j y e o. owned_place j y (cases_eq j k) here e o);
           off = λ j g. off_place j (cases_eq j k) here g;
         }
       where
-        by_place : (j : ℕ) → (j ≡ k) ⊎ (j ≡ k → ⊥) → slice_get other k ≡ Some (read_by (readings k records) w) → touched j ≡ true →
+        by_place : (j : ℕ) → (j ≡ k) ⊎ (j ≡ k → ⊥) → slice_get other k
+            ≡ Some (read_by (readings k records) w) → touched j ≡ true →
             slice_get (slice_set other k (taken number id v (read_by (readings k records) w))) j
-            ≡ seen (readings j (records ++ record_of id k w ∷ [])) (slice_get (slice_set table k (taken number id v w)) j)
+            ≡ seen (readings j (records ++ record_of id k w ∷ []))
+            (slice_get (slice_set table k (taken number id v w)) j)
         by_place j (inl e) there g =
             let new : Word = taken number id v w in
             ap (λ (i : ℕ). slice_get (slice_set other k (taken number id v (read_by (readings k records) w))) i) e
-            ∙ get_same other k (read_by (readings k records) w) (taken number id v (read_by (readings k records) w)) there
+            ∙ get_same other k (read_by (readings k records) w)
+            (taken number id v (read_by (readings k records) w)) there
             ∙ ap (λ (n : ℕ). Some (read_by n new)) (sym (readings_last id k w records))
-            ∙ ap (λ (o : Option Word). seen (readings k (records ++ record_of id k w ∷ [])) o) (sym (get_same table k w new at))
-            ∙ ap (λ (i : ℕ). seen (readings i (records ++ record_of id k w ∷ [])) (slice_get (slice_set table k new) i)) (sym e)
+            ∙ ap (λ (o : Option Word). seen (readings k (records ++ record_of id k w ∷ [])) o)
+            (sym (get_same table k w new at))
+            ∙ ap (λ (i : ℕ). seen (readings i (records ++ record_of id k w ∷ []))
+            (slice_get (slice_set table k new) i)) (sym e)
         by_place j (inr n) there g =
             get_other other k j (taken number id v (read_by (readings k records) w)) n ∙ agree j g
             ∙ ap (λ (m : ℕ). seen m (slice_get table j)) (sym (readings_beside id k w records j n))
@@ -237,7 +257,8 @@ serves_same number id k v touched table other records x t q h owns places agree 
         IsServedSame number id k v touched t other records x q
     by_word None e h = absurd (not_gives BAD_ARGUMENT x t q h)
     by_word (Some w) e h =
-        by_tests (may_serve number id k records w) (is_held number id k records w) (is_full records w) w e refl refl refl h
+        by_tests (may_serve number id k records w) (is_held number id k records w)
+        (is_full records w) w e refl refl refl h
 
 -- ---- a whole run
 
@@ -254,12 +275,14 @@ Same number touched rest =
 abbrev Grows : (State → Ended) → Type 0
 Grows rest = (q : State) (j : ℕ) → HasRecord j q.records → HasRecord j (rest q).state.records
 
-stopped_same : (touched : ℕ → Bool) (why : Stop) (left : ℕ) (s : State) (other : List Word) → Agree touched s.records s.table other →
+stopped_same : (touched : ℕ → Bool) (why : Stop) (left : ℕ) (s : State) (other : List Word) →
+    Agree touched s.records s.table other →
     IsSameRun touched (ended why left s) (ended why left (state s.machine other s.records)) other
 stopped_same touched why left s other agree =
     record { stop = refl; left = refl; machine = refl; records = refl; on = agree; off = λ j g. refl }
 
-word_same : (number id : ℕ) (touched : ℕ → Bool) (rest : State → Ended) (left : ℕ) (s : State) (other : List Word) (a : Serves) →
+word_same : (number id : ℕ) (touched : ℕ → Bool) (rest : State → Ended) (left : ℕ) (s : State)
+    (other : List Word) (a : Serves) →
     Same number touched rest → Grows rest → OwnsTouched number touched s.table → Agree touched s.records s.table other →
     serves number id (s.machine.regs 0) (s.machine.regs 1) s.table s.records ≡ a →
     goes_well (after_answer rest left (after_word id s a)).stop ≡ true →
@@ -267,7 +290,8 @@ word_same : (number id : ℕ) (touched : ℕ → Bool) (rest : State → Ended) 
     IsSameRun touched (after_answer rest left (after_word id s a))
     (after_answer rest left (after_word id (state s.machine other s.records)
     (serves number id (s.machine.regs 0) (s.machine.regs 1) other s.records))) other
-word_same number id touched rest left s other (Refuses cause) same grow owns agree e well places = absurd (false_true well)
+word_same number id touched rest left s other (Refuses cause) same grow owns agree e well places =
+    absurd (false_true well)
 word_same number id touched rest left s other (Gives x t r) same grow owns agree e well places =
     let q = state (with_r0 x s.machine) t r in
     let one = serves_same number id (s.machine.regs 0) (s.machine.regs 1) touched s.table other s.records x t r e owns
@@ -318,7 +342,8 @@ answer_same number id touched rest left s other same grow owns agree = by_id (na
     by_id false true well places = stopped_same touched (stop.Waits id) left s other agree
     by_id false false well places = absurd (false_true well)
 
-done_same : (number : ℕ) (touched : ℕ → Bool) (rest : State → Ended) (left : ℕ) (d : Done) (s : State) (other : List Word) →
+done_same : (number : ℕ) (touched : ℕ → Bool) (rest : State → Ended) (left : ℕ) (d : Done)
+    (s : State) (other : List Word) →
     Same number touched rest → Grows rest → OwnsTouched number touched s.table → Agree touched s.records s.table other →
     goes_well (after_done number rest left d s).stop ≡ true →
     RecordsTouched touched (after_done number rest left d s).state.records →
@@ -330,8 +355,10 @@ done_same number touched rest left (Done.Called id m) s other same grow owns agr
     answer_same number id touched rest left (state m s.table s.records) other same grow owns agree well places
 done_same number touched rest left Done.Returned s other same grow owns agree well places =
     stopped_same touched stop.Returns left s other agree
-done_same number touched rest left Done.DividedByZero s other same grow owns agree well places = absurd (false_true well)
-done_same number touched rest left (Done.Trapped code) s other same grow owns agree well places = absurd (false_true well)
+done_same number touched rest left Done.DividedByZero s other same grow owns agree well places =
+    absurd (false_true well)
+done_same number touched rest left (Done.Trapped code) s other same grow owns agree well places =
+    absurd (false_true well)
 done_same number touched rest left Done.Outside s other same grow owns agree well places = absurd (false_true well)
 done_same number touched rest left Done.PastEnd s other same grow owns agree well places = absurd (false_true well)
 

@@ -1,5 +1,6 @@
 -- What came of a call of a plug-in, as an answer of a list.
-use Rattle.std.proofs.Common.{◌≡◌, ℕ, ◌≤◌, Bool, true, false, cond, not, List, [], ◌∷◌, ◌++◌, Option, None, Some, refl, sym, ap, ◌∙◌, arith}
+use Rattle.std.proofs.Common.{◌≡◌, ℕ, ◌≤◌, Bool, true, false, cond, not, List, [], ◌∷◌, ◌++◌}
+use Rattle.std.proofs.Common.{Option, None, Some, refl, sym, ap, ◌∙◌, arith}
 use Rattle.std.specs.Prelude.{◌==◌, nat_le, slice_get, slice_set}
 use Rattle.std.proofs.lemmas.Bool.{leb-true, ne_eqb}
 use Rattle.graft_code.specs.Objects.{at}
@@ -11,14 +12,16 @@ use Rattle.vino_host.specs.declared.Stop.TheVariants as stop
 use Rattle.vino_host.specs.declared.Word.{Word}
 use Rattle.vino_host.specs.Codes.{BUSY, NO_RECORDS, BAD_ARGUMENT, NOT_CALLABLE}
 use Rattle.vino_host.specs.HostRuns.{State, state, Answered, Goes, Stops, after_word, answered, with_r0}
-use Rattle.vino_host.specs.Tables.{Serves, Gives, Refuses, may_serve, is_held, is_full, taken, record_of, serves_word, serves}
+use Rattle.vino_host.specs.Tables.{Serves, Gives, Refuses, may_serve, is_held, is_full, taken}
+use Rattle.vino_host.specs.Tables.{record_of, serves_word, serves}
 use Rattle.host_laws.specs.RawAnswers.{halt_by, halt_of}
 
 refused_by : (number id k v : ℕ) (table : List Word) (records : List Record) (cause detail : ℕ) →
     serves number id k v table records ≡ Refuses cause → halt_by cause detail ≡ Some (Unanswered detail)
 refused_by number id k v table records cause detail h = by_word (slice_get table k) h
   where
-    as_cause : (q : ℕ) → q ≡ cause → halt_by q detail ≡ Some (Unanswered detail) → halt_by cause detail ≡ Some (Unanswered detail)
+    as_cause : (q : ℕ) → q ≡ cause → halt_by q detail ≡ Some (Unanswered detail) →
+        halt_by cause detail ≡ Some (Unanswered detail)
     as_cause q e g = ap (λ (x : ℕ). halt_by x detail) (sym e) ∙ g
 
     by_tests : (a b c : Bool) (w : Word) →
@@ -35,7 +38,8 @@ refused_by number id k v table records cause detail h = by_word (slice_get table
         elim o [ None ↦ Refuses BAD_ARGUMENT | Some w ↦ serves_word number id k v table records w ] ≡ Refuses cause →
         halt_by cause detail ≡ Some (Unanswered detail)
     by_word None h = let same : 4 ≡ cause = cc in as_cause 4 same refl
-    by_word (Some w) h = by_tests (may_serve number id k records w) (is_held number id k records w) (is_full records w) w h
+    by_word (Some w) h = by_tests (may_serve number id k records w) (is_held number id k records w)
+        (is_full records w) w h
 
 -- what came of a call is an answer, or the end of the run at the call
 pub record IsAnswered (id : ℕ) (s : State) (a : Answered) : Type 0 where

@@ -1,5 +1,6 @@
 -- What a run does to the words of the others, and what it holds of its own.
-use Rattle.std.proofs.Common.{◌+◌, ◌<◌, ◌≤◌, arith, ◌≡◌, ℕ, zero, suc, Bool, true, false, cond, not, List, [], ◌∷◌, ◌++◌}
+use Rattle.std.proofs.Common.{◌+◌, ◌<◌, ◌≤◌, arith, ◌≡◌, ℕ, zero, suc, Bool, true, false, cond, not}
+use Rattle.std.proofs.Common.{List, [], ◌∷◌, ◌++◌}
 use Rattle.std.proofs.Common.{Option, None, Some, refl, sym, ap, subst, ◌∙◌, ◌⊎◌, inl, inr}
 use Rattle.std.specs.Prelude.{◌==◌, ◌||◌, nat_le, slice_get, slice_set}
 use Rattle.std.proofs.lemmas.Bool.{cases_eq, or_cases, and_parts, eqb-true, or_left, or_right, eq-eqb, leb-true}
@@ -10,8 +11,10 @@ use Rattle.vino_host.specs.declared.Stop.TheVariants as stop
 use Rattle.vino_host.specs.declared.Word.{Word}
 use Rattle.vino_host.specs.Codes.{BUSY, NO_RECORDS, BAD_ARGUMENT, NOT_CALLABLE}
 use Rattle.vino_host.specs.HostMachine.{host_step}
-use Rattle.vino_host.specs.HostRuns.{State, state, Ended, Stops, after_word, answered, after_answer, after_done, host_run, with_r0}
-use Rattle.vino_host.specs.Tables.{Serves, Gives, Refuses, is_open_to, may_serve, is_held, is_full, taken, record_of, readings, serves_word, serves}
+use Rattle.vino_host.specs.HostRuns.{State, state, Ended, Stops, after_word, answered, after_answer}
+use Rattle.vino_host.specs.HostRuns.{after_done, host_run, with_r0}
+use Rattle.vino_host.specs.Tables.{Serves, Gives, Refuses, is_open_to, may_serve, is_held, is_full}
+use Rattle.vino_host.specs.Tables.{taken, record_of, readings, serves_word, serves}
 use Rattle.host_laws.specs.Histories.{touches}
 use Rattle.host_laws.proofs.Others.{get_other}
 use Rattle.host_laws.specs.Alone.{seen}
@@ -51,10 +54,13 @@ answer_keeps P number id rest left s keeps h has = by_id (nat_le id 1) (nat_le i
     by_id false true = has
     by_id false false = has
 
-done_keeps : (P : List Word → List Record → Type 0) (number : ℕ) (rest : State → Ended) (left : ℕ) (d : Done) (s : State) →
-    Keeps number P → ((q : State) → Of P q → Of P (rest q).state) → Of P s → Of P (after_done number rest left d s).state
+done_keeps : (P : List Word → List Record → Type 0) (number : ℕ) (rest : State → Ended) (left : ℕ)
+    (d : Done) (s : State) →
+    Keeps number P → ((q : State) → Of P q → Of P (rest q).state) → Of P s →
+    Of P (after_done number rest left d s).state
 done_keeps P number rest left (Done.Went m) s keeps h has = h (state m s.table s.records) has
-done_keeps P number rest left (Done.Called id m) s keeps h has = answer_keeps P number id rest left (state m s.table s.records) keeps h has
+done_keeps P number rest left (Done.Called id m) s keeps h has = answer_keeps P number id rest left
+    (state m s.table s.records) keeps h has
 done_keeps P number rest left Done.Returned s keeps h has = has
 done_keeps P number rest left Done.DividedByZero s keeps h has = has
 done_keeps P number rest left (Done.Trapped code) s keeps h has = has
@@ -95,7 +101,8 @@ touches_more (r ∷ rs) more k h = by_test (λ g. touches_more rs more k g) (or_
 
 touches_last : (rs : List Record) (id k : ℕ) (w : Word) → touches (rs ++ record_of id k w ∷ []) k ≡ true
 touches_last [] id k w = or_left (k == k) false (eq-eqb k k refl)
-touches_last (r ∷ rs) id k w = or_right (r.place == k) (touches (rs ++ record_of id k w ∷ []) k) (touches_last rs id k w)
+touches_last (r ∷ rs) id k w = or_right (r.place == k) (touches (rs ++ record_of id k w ∷ []) k)
+    (touches_last rs id k w)
 
 touches_behind : (rs : List Record) (id k : ℕ) (w : Word) (j : ℕ) → touches (rs ++ record_of id k w ∷ []) j ≡ true →
     (k ≡ j) ⊎ (touches rs j ≡ true)
@@ -156,7 +163,8 @@ set_holds n id k v others first t r w some has at may =
     by_count j (inl e) =
         let a : readers_at (slice_get (slice_set t k (taken n id v w)) j) ≡ w.readers + cond (id == 1) 0 1 =
         ap (λ (o : Option Word). readers_at o) (there j e) in
-        let b : w.readers ≡ others j + readings j r = sym (ap (λ (o : Option Word). readers_at o) (was j e)) ∙ has.count j in
+        let b : w.readers ≡ others j + readings j r =
+        sym (ap (λ (o : Option Word). readers_at o) (was j e)) ∙ has.count j in
         let c : readings j (r ++ record_of id k w ∷ []) ≡ readings j r + cond (id == 1) 0 1 =
         ap (λ (i : ℕ). readings i (r ++ record_of id k w ∷ [])) e ∙ readings_last id k w r
         ∙ ap (λ (i : ℕ). readings i r + cond (id == 1) 0 1) (sym e) in
@@ -166,7 +174,8 @@ set_holds n id k v others first t r w some has at may =
         ∙ ap (λ (m : ℕ). others j + m) (sym (readings_beside id k w r j other))
 
     -- where it isn't changed, value and owner stay
-    reads : (j : ℕ) → j ≡ k → (id == 1) ≡ false → seen 0 (slice_get (slice_set t k (taken n id v w)) j) ≡ seen 0 (slice_get t j)
+    reads : (j : ℕ) → j ≡ k → (id == 1) ≡ false →
+        seen 0 (slice_get (slice_set t k (taken n id v w)) j) ≡ seen 0 (slice_get t j)
     reads j e f =
         ap (λ (o : Option Word). seen 0 o) (there j e)
         ∙ ap (λ (b : Bool). seen 0 (Some (record {
@@ -185,7 +194,8 @@ set_holds n id k v others first t r w some has at may =
         let most : nat_le w.readers (readings k r) ≡ true =
         ap (λ (b : Bool). not b || nat_le w.readers (readings k r)) (sym f) ∙ low in
         let le : w.readers ≤ readings k r = leb-true w.readers (readings k r) most in
-        let c : w.readers ≡ others j + readings j r = sym (ap (λ (o : Option Word). readers_at o) (was j e)) ∙ has.count j in
+        let c : w.readers ≡ others j + readings j r =
+        sym (ap (λ (o : Option Word). readers_at o) (was j e)) ∙ has.count j in
         let d : readings j r ≡ readings k r = ap (λ (i : ℕ). readings i r) e in
         absurd (omega (arith, le, c, d, h))
     by_shared j (inr other) h b f = ap (λ (o : Option Word). seen 0 o) (else_ j other) ∙ has.shared j h
@@ -220,7 +230,8 @@ set_holds n id k v others first t r w some has at may =
 
     by_held : (j : ℕ) → (j ≡ k) ⊎ (j ≡ k → ⊥) → touches (r ++ record_of id k w ∷ []) j ≡ true →
         (owner_at (slice_get (slice_set t k (taken n id v w)) j) ≡ n)
-        ⊎ ((owner_at (slice_get (slice_set t k (taken n id v w)) j) ≡ 0) × (0 < readings j (r ++ record_of id k w ∷ [])))
+        ⊎ ((owner_at (slice_get (slice_set t k (taken n id v w)) j) ≡ 0) ×
+        (0 < readings j (r ++ record_of id k w ∷ [])))
     by_held j (inl e) g = by_change (id == 1) refl open_to
       where
         owner : owner_at (slice_get (slice_set t k (taken n id v w)) j) ≡ cond (id == 1) n w.owner
@@ -228,7 +239,8 @@ set_holds n id k v others first t r w some has at may =
 
         by_change : (b : Bool) → (id == 1) ≡ b → (w.owner ≡ 0) ⊎ (w.owner ≡ n) →
             (owner_at (slice_get (slice_set t k (taken n id v w)) j) ≡ n)
-            ⊎ ((owner_at (slice_get (slice_set t k (taken n id v w)) j) ≡ 0) × (0 < readings j (r ++ record_of id k w ∷ [])))
+            ⊎ ((owner_at (slice_get (slice_set t k (taken n id v w)) j) ≡ 0) ×
+            (0 < readings j (r ++ record_of id k w ∷ [])))
         by_change true f o = inl (owner ∙ ap (λ (b : Bool). cond b n w.owner) f)
         by_change false f (inr o) = inl (owner ∙ ap (λ (b : Bool). cond b n w.owner) f ∙ o)
         by_change false f (inl o) =
@@ -244,7 +256,8 @@ set_holds n id k v others first t r w some has at may =
 
         by_old : (owner_at (slice_get t j) ≡ n) ⊎ ((owner_at (slice_get t j) ≡ 0) × (0 < readings j r)) →
             (owner_at (slice_get (slice_set t k (taken n id v w)) j) ≡ n)
-            ⊎ ((owner_at (slice_get (slice_set t k (taken n id v w)) j) ≡ 0) × (0 < readings j (r ++ record_of id k w ∷ [])))
+            ⊎ ((owner_at (slice_get (slice_set t k (taken n id v w)) j) ≡ 0) ×
+            (0 < readings j (r ++ record_of id k w ∷ [])))
         by_old (inl e) = inl (ap (λ (o : Option Word). owner_at o) (else_ j other) ∙ e)
         by_old (inr p) =
             inr (
@@ -265,7 +278,9 @@ set_holds n id k v others first t r w some has at may =
         absurd (some (sym (ap (λ (b : Bool). cond b n w.owner) f)
         ∙ sym (ap (λ (o : Option Word). owner_at o) (there j e)) ∙ h))
     by_unchanged j (inl e) h false f =
-        reads j e f ∙ has.unchanged j (sym (same_owner (slice_get (slice_set t k (taken n id v w)) j) (slice_get t j) (reads j e f)) ∙ h)
+        reads j e f ∙ has.unchanged j
+        (sym (same_owner (slice_get (slice_set t k (taken n id v w)) j) (slice_get t j)
+        (reads j e f)) ∙ h)
     by_unchanged j (inr other) h b f =
         ap (λ (o : Option Word). seen 0 o) (else_ j other)
         ∙ has.unchanged j (sym (ap (λ (o : Option Word). owner_at o) (else_ j other)) ∙ h)
@@ -273,9 +288,11 @@ set_holds n id k v others first t r w some has at may =
 gives_holds : (n : ℕ) (others : ℕ → ℕ) (first : List Word) → (n ≡ 0 → ⊥) → Keeps n (λ t r. Holds n others first t r)
 gives_holds n others first some id k v t r x u q has h = by_word (slice_get t k) refl h
   where
-    as_is : (t2 : List Word) (r2 : List Record) → t2 ≡ u → r2 ≡ q → Holds n others first t2 r2 → Holds n others first u q
+    as_is : (t2 : List Word) (r2 : List Record) → t2 ≡ u → r2 ≡ q → Holds n others first t2 r2 →
+        Holds n others first u q
     as_is t2 r2 et er g =
-        subst (λ (y : List Word). Holds n others first y q) et (subst (λ (y : List Record). Holds n others first t2 y) er g)
+        subst (λ (y : List Word). Holds n others first y q) et
+        (subst (λ (y : List Record). Holds n others first t2 y) er g)
 
     by_tests : (a b c : Bool) (w : Word) → slice_get t k ≡ Some w → may_serve n id k r w ≡ a →
         cond (not a) (Refuses BUSY) (cond b (Gives w.value t r)
@@ -292,12 +309,14 @@ gives_holds n others first some id k v t r x u q has h = by_word (slice_get t k)
         (set_holds n id k v others first t r w some has e may)
 
     by_word : (o : Option Word) → slice_get t k ≡ o →
-        elim o [ None ↦ Refuses BAD_ARGUMENT | Some w ↦ serves_word n id k v t r w ] ≡ Gives x u q → Holds n others first u q
+        elim o [ None ↦ Refuses BAD_ARGUMENT | Some w ↦ serves_word n id k v t r w ] ≡ Gives x u q →
+        Holds n others first u q
     by_word None e h = cc
     by_word (Some w) e h = by_tests (may_serve n id k r w) (is_held n id k r w) (is_full r w) w e refl h
 
 -- what a call holds it holds after a run too
-pub run_holds : (n : ℕ) (code : List Instruction) (left : ℕ) (s : State) (others : ℕ → ℕ) (first : List Word) → (n ≡ 0 → ⊥) →
+pub run_holds : (n : ℕ) (code : List Instruction) (left : ℕ) (s : State) (others : ℕ → ℕ)
+    (first : List Word) → (n ≡ 0 → ⊥) →
     Holds n others first s.table s.records →
     Holds n others first (host_run n code left s).state.table (host_run n code left s).state.records
 run_holds n code left s others first some has =

@@ -1,5 +1,6 @@
 -- A slice among others that wait leaves a good world, however it stops.
-use Rattle.std.proofs.Common.{◌≤◌, arith, ◌≡◌, ℕ, Bool, true, false, cond, List, ◌∷◌, Option, None, Some, refl, sym, ap, subst, ◌∙◌, ◌⊎◌, inl, inr}
+use Rattle.std.proofs.Common.{◌≤◌, arith, ◌≡◌, ℕ, Bool, true, false, cond, List, ◌∷◌, Option, None}
+use Rattle.std.proofs.Common.{Some, refl, sym, ap, subst, ◌∙◌, ◌⊎◌, inl, inr}
 use Rattle.std.specs.Prelude.{◌==◌, not, slice_get}
 use Rattle.std.proofs.lemmas.Bool.{cases_Bool, or_parts}
 use Rattle.graft_code.specs.Machine.{Machine}
@@ -14,11 +15,15 @@ use Rattle.vino_host.specs.HostRuns.{state, Ended, ended, host_run}
 use Rattle.vino_host.specs.Tables.{readings, undone, released}
 use Rattle.vino_host.proofs.Kept.{run_kept}
 use Rattle.host_laws.specs.Alone.{seen, goes_well, IsSameRun}
-use Rattle.host_laws.specs.Histories.{Story, Waiting, Ending, World, touches, is_touched, whole, after_stop, one_by_one, AreSameCalls}
+use Rattle.host_laws.specs.Histories.{Story, Waiting, Ending, World, touches, is_touched, whole}
+use Rattle.host_laws.specs.Histories.{after_stop, one_by_one, AreSameCalls}
 use Rattle.host_laws.proofs.Sound.{has_cause, run_cause}
 use Rattle.host_laws.proofs.Aloneness.{runs_hang_on_their_words}
 use Rattle.host_laws.proofs.Readings.{readings_none}
-use Rattle.host_laws.proofs.Touching.{owner_at, readers_at, seen_seen, owner_seen, same_owner, seen_alone, has_touched, undone_off, released_off, released_same, released_owner, released_readers, released_kept}
+use Rattle.host_laws.proofs.Touching.{owner_at, readers_at, seen_seen, owner_seen, same_owner}
+use Rattle.host_laws.proofs.Touching.{seen_alone, has_touched, undone_off, released_off}
+use Rattle.host_laws.proofs.Touching.{released_same, released_owner, released_readers}
+use Rattle.host_laws.proofs.Touching.{released_kept}
 use Rattle.host_laws.proofs.Waiting.{IsBefore, HoldsWord, Beside, total, others_beside}
 use Rattle.host_laws.proofs.Slicing.{Good, Slice, Ran, ran, dropped_good, both_hold, absurd_bool}
 
@@ -46,7 +51,8 @@ as_first touched e g other same =
     ∙ ap (λ (x : Machine). ended e.stop e.left (state x g.state.table g.state.records)) same.machine
     ∙ ap (λ (x : List Record). ended e.stop e.left (state e.state.machine g.state.table x)) same.records
 
-not_before : (records made : List Record) (k : ℕ) → (touches records k ≡ true → touches made k ≡ true) → touches made k ≡ false →
+not_before : (records made : List Record) (k : ℕ) → (touches records k ≡ true → touches made k
+    ≡ true) → touches made k ≡ false →
     touches records k ≡ false
 not_before records made k grows h = by_touch (touches records k) refl
   where
@@ -62,32 +68,39 @@ Comes story f code left m table records =
 again : (story : Story) (f : Frame) (code : List Instruction) (left : ℕ) (m : Machine) (table serial : List Word)
     (others : List Waiting) (records : List Record) (b : List Word) → Slice f.number table serial others records →
     Ran f.number table serial others records (host_run f.number code left (state m table records)) →
-    goes_well (host_run f.number code left (state m table records)).stop ≡ true → Comes story f code left m table records →
+    goes_well (host_run f.number code left (state m table records)).stop ≡ true →
+    Comes story f code left m table records →
     IsBefore (host_run f.number code left (state m table records)).state.table
     (host_run f.number code left (state m table records)).state.records b →
     Again story f (host_run f.number code left (state m table records)) b
 again story f code left m table serial others records b s r well comes h =
     let e : Ended = host_run f.number code left (state m table records) in
-    let at : (k : ℕ) → seen 0 (slice_get (undone e.state.records e.state.table) k) ≡ seen 0 (slice_get (undone records table) k) =
+    let at : (k : ℕ) → seen 0 (slice_get (undone e.state.records e.state.table) k)
+    ≡ seen 0 (slice_get (undone records table) k) =
     λ k. ap (λ (t : List Word). seen 0 (slice_get t k)) r.kept in
     let c : Came story f code left m table records b = comes b (λ k g. h k (r.grows k g) ∙ at k) in
-    let same : IsSameRun (λ k. touches e.state.records k) e (host_run f.number code left (state m c.over records)) c.over =
+    let same : IsSameRun (λ k. touches e.state.records k) e
+    (host_run f.number code left (state m c.over records)) c.over =
     runs_hang_on_their_words f.number code left (state m table records) c.over (λ k. touches e.state.records k) well
-    (λ k w i o. r.grows k (s.owns k (ap (λ (x : Option Word). owner_at x) i ∙ o))) (λ k g. has_touched e.state.records k g)
+    (λ k w i o. r.grows k (s.owns k (ap (λ (x : Option Word). owner_at x) i ∙ o)))
+    (λ k g. has_touched e.state.records k g)
     (λ k g. by_touch c.over k (λ t. c.on k t) (λ t. c.off k t) (h k g ∙ at k) (cases_Bool (touches records k))) in
     record {
       table = (host_run f.number code left (state m c.over records)).state.table;
       says = c.says
           ∙ ap (λ (x : Ended). found f x)
-          (as_first (λ k. touches e.state.records k) e (host_run f.number code left (state m c.over records)) c.over same);
+          (as_first (λ k. touches e.state.records k) e
+          (host_run f.number code left (state m c.over records)) c.over same);
       on = same.on;
       off = λ k g. same.off k g ∙ c.off k (not_before records e.state.records k (r.grows k) g);
     }
   where
     by_touch : (over : List Word) (k : ℕ) →
         (touches records k ≡ true → slice_get over k ≡ seen (readings k records) (slice_get table k)) →
-        (touches records k ≡ false → slice_get over k ≡ slice_get b k) → slice_get b k ≡ seen 0 (slice_get (undone records table) k) →
-        (touches records k ≡ true) ⊎ (touches records k ≡ false) → slice_get over k ≡ seen (readings k records) (slice_get table k)
+        (touches records k ≡ false → slice_get over k ≡ slice_get b k) → slice_get b k
+        ≡ seen 0 (slice_get (undone records table) k) →
+        (touches records k ≡ true) ⊎ (touches records k ≡ false) → slice_get over k
+        ≡ seen (readings k records) (slice_get table k)
     by_touch over k on off e (inl g) = on g
     by_touch over k on off e (inr g) =
         off g ∙ e ∙ ap (λ (o : Option Word). seen 0 o) (undone_off records table k g)
@@ -104,12 +117,14 @@ waits_beside n table serial others records e r =
       came = λ k some other. by_touch k some other (cases_Bool (touches e.state.records k));
     }
   where
-    by_held : (k : ℕ) → (owner_at (slice_get e.state.table k) ≡ 0 → ⊥) → (owner_at (slice_get e.state.table k) ≡ n → ⊥) →
+    by_held : (k : ℕ) → (owner_at (slice_get e.state.table k) ≡ 0 → ⊥) →
+        (owner_at (slice_get e.state.table k) ≡ n → ⊥) →
         HoldsWord n (readings k e.state.records) (slice_get e.state.table k) → ⊥
     by_held k some other (inl o) = other o
     by_held k some other (inr p) = some p.0
 
-    by_touch : (k : ℕ) → (owner_at (slice_get e.state.table k) ≡ 0 → ⊥) → (owner_at (slice_get e.state.table k) ≡ n → ⊥) →
+    by_touch : (k : ℕ) → (owner_at (slice_get e.state.table k) ≡ 0 → ⊥) →
+        (owner_at (slice_get e.state.table k) ≡ n → ⊥) →
         (touches e.state.records k ≡ true) ⊎ (touches e.state.records k ≡ false) →
         owner_at (slice_get e.state.table k) ≡ owner_at (slice_get table k)
     by_touch k some other (inl g) = absurd (by_held k some other (r.holds.held k g))
@@ -122,7 +137,8 @@ Stopping ends first others story f e j = Good (after_stop ends others story (fou
 waits_good : (story : Story) (f : Frame) (code : List Instruction) (left : ℕ) (m : Machine) (table : List Word)
     (ends : List Ending) (first : List Word) (others : List Waiting) (records : List Record) (id : ℕ) →
     AreSameCalls ends first → Slice f.number table (one_by_one ends first) others records →
-    Comes story f code left m table records → goes_well (host_run f.number code left (state m table records)).stop ≡ true →
+    Comes story f code left m table records →
+    goes_well (host_run f.number code left (state m table records)).stop ≡ true →
     judged f (host_run f.number code left (state m table records)).stop
     ((host_run f.number code left (state m table records)).state.machine.regs 0) ≡ stop.Waits id →
     Stopping ends first others story f (host_run f.number code left (state m table records)) (stop.Waits id)
@@ -172,8 +188,10 @@ readers_seen n None = omega arith
 readers_seen n (Some w) = omega arith
 
 -- what a completed call leaves: `t` is the table where it was made at once
-record Freed (n : ℕ) (table serial : List Word) (others : List Waiting) (records : List Record) (e : Ended) (t : List Word) : Type 0 where
-  unowned : (k : ℕ) → touches e.state.records k ≡ true → owner_at (slice_get (released e.state.records e.state.table) k) ≡ 0
+record Freed (n : ℕ) (table serial : List Word) (others : List Waiting) (records : List Record)
+    (e : Ended) (t : List Word) : Type 0 where
+  unowned : (k : ℕ) → touches e.state.records k ≡ true →
+      owner_at (slice_get (released e.state.records e.state.table) k) ≡ 0
   alike : (k : ℕ) → touches e.state.records k ≡ true →
       slice_get (released e.state.records t) k ≡ seen 0 (slice_get (released e.state.records e.state.table) k)
   stays : (k m own : ℕ) → HoldsWord m own (slice_get table k) → own ≤ total others k → (m ≡ 0 → ⊥) → (m ≡ n → ⊥) →
@@ -183,19 +201,22 @@ record Freed (n : ℕ) (table serial : List Word) (others : List Waiting) (recor
 
 freed : (n : ℕ) (table serial : List Word) (others : List Waiting) (records : List Record) (e : Ended) (t : List Word) →
     Slice n table serial others records → Ran n table serial others records e →
-    ((k : ℕ) → touches e.state.records k ≡ true → slice_get t k ≡ seen (readings k e.state.records) (slice_get e.state.table k)) →
+    ((k : ℕ) → touches e.state.records k ≡ true → slice_get t k ≡ seen (readings k e.state.records)
+    (slice_get e.state.table k)) →
     Freed n table serial others records e t
 freed n table serial others records e t s r on =
     record {
       unowned = unowned;
       alike = alike;
-      stays = λ k m own holds few some other. staying k m own holds few some other (cases_Bool (touches e.state.records k));
+      stays = λ k m own holds few some other. staying k m own holds few some other
+          (cases_Bool (touches e.state.records k));
       free = λ k m own holds few some other g.
           sym (same_owner (slice_get e.state.table k) (slice_get table k) (r.stays k m own holds few some other))
           ∙ both k m own holds few some other g;
     }
   where
-    unowned : (k : ℕ) → touches e.state.records k ≡ true → owner_at (slice_get (released e.state.records e.state.table) k) ≡ 0
+    unowned : (k : ℕ) → touches e.state.records k ≡ true →
+        owner_at (slice_get (released e.state.records e.state.table) k) ≡ 0
     unowned k g =
         released_owner e.state.records e.state.table k g
         ∙ sym (owner_seen 0 (slice_get (undone e.state.records e.state.table) k))
@@ -205,9 +226,11 @@ freed n table serial others records e t s r on =
         slice_get (released e.state.records t) k ≡ seen 0 (slice_get (released e.state.records e.state.table) k)
     alike k g =
         let same : seen 0 (slice_get t k) ≡ seen 0 (slice_get e.state.table k) =
-        ap (λ (o : Option Word). seen 0 o) (on k g) ∙ seen_seen 0 (readings k e.state.records) (slice_get e.state.table k) in
+        ap (λ (o : Option Word). seen 0 o) (on k g) ∙ seen_seen 0 (readings k e.state.records)
+        (slice_get e.state.table k) in
         let count = released_readers e.state.records t k in
-        let own : readers_at (slice_get t k) ≡ readers_at (seen (readings k e.state.records) (slice_get e.state.table k)) =
+        let own : readers_at (slice_get t k) ≡ readers_at (seen (readings k e.state.records)
+        (slice_get e.state.table k)) =
         ap (λ (o : Option Word). readers_at o) (on k g) in
         let most = readers_seen (readings k e.state.records) (slice_get e.state.table k) in
         let none : readers_at (slice_get (released e.state.records t) k) ≡ 0 = omega (arith, count, own, most) in
@@ -223,7 +246,8 @@ freed n table serial others records e t s r on =
         touches e.state.records k ≡ true → owner_at (slice_get e.state.table k) ≡ 0
     both k m own holds few some other g =
         both_hold n m (readings k e.state.records) own (slice_get e.state.table k) (r.holds.held k g)
-        (moved k m own (same_owner (slice_get e.state.table k) (slice_get table k) (r.stays k m own holds few some other)) holds)
+        (moved k m own (same_owner (slice_get e.state.table k) (slice_get table k)
+        (r.stays k m own holds few some other)) holds)
         other s.some some
 
     staying : (k m own : ℕ) → HoldsWord m own (slice_get table k) → own ≤ total others k → (m ≡ 0 → ⊥) → (m ≡ n → ⊥) →
@@ -233,12 +257,14 @@ freed n table serial others records e t s r on =
         released_kept e.state.records e.state.table k (unowned k g ∙ sym (both k m own holds few some other g))
         ∙ r.stays k m own holds few some other
     staying k m own holds few some other (inr g) =
-        ap (λ (o : Option Word). seen 0 o) (released_off e.state.records e.state.table k g) ∙ r.stays k m own holds few some other
+        ap (λ (o : Option Word). seen 0 o) (released_off e.state.records e.state.table k g)
+        ∙ r.stays k m own holds few some other
 
 completes_good : (story : Story) (f : Frame) (code : List Instruction) (left : ℕ) (m : Machine) (table : List Word)
     (ends : List Ending) (first : List Word) (others : List Waiting) (records : List Record) →
     AreSameCalls ends first → Slice f.number table (one_by_one ends first) others records →
-    Comes story f code left m table records → goes_well (host_run f.number code left (state m table records)).stop ≡ true →
+    Comes story f code left m table records →
+    goes_well (host_run f.number code left (state m table records)).stop ≡ true →
     judged f (host_run f.number code left (state m table records)).stop
     ((host_run f.number code left (state m table records)).state.machine.regs 0) ≡ stop.Returns →
     Stopping ends first others story f (host_run f.number code left (state m table records)) stop.Returns
@@ -247,7 +273,8 @@ completes_good story f code left m table ends first others records calls s comes
     let serial : List Word = one_by_one ends first in
     let e : Ended = host_run f.number code left (state m table records) in
     let r : Ran f.number table serial others records e = ran f.number code left m table serial others records s in
-    let a : Again story f e serial = again story f code left m table serial others records serial s r well comes r.before in
+    let a : Again story f e serial = again story f code left m table serial others records serial s
+    r well comes r.before in
     let to : whole story serial ≡ found_by f e.left (state e.state.machine a.table e.state.records) stop.Returns =
     a.says ∙ ap (λ (x : Stop). found_by f e.left (state e.state.machine a.table e.state.records) x) is in
     let at : (k : ℕ) → slice_get (whole story serial).table k ≡ slice_get (released e.state.records a.table) k =
@@ -264,11 +291,13 @@ completes_good story f code left m table ends first others records calls s comes
         calls,
       );
       distinct = s.distinct;
-      stands = others_beside f.number (total others) table serial (released e.state.records e.state.table) (whole story serial).table others
+      stands = others_beside f.number (total others) table serial
+          (released e.state.records e.state.table) (whole story serial).table others
           (record {
             stays = fr.stays;
             stays_serial = λ k i own holds few some other.
-                at k ∙ serial_stays e a.table a.off fr k i own holds few some other (cases_Bool (touches e.state.records k));
+                at k ∙ serial_stays e a.table a.off fr k i own holds few some other
+                (cases_Bool (touches e.state.records k));
             came = λ k some other. coming e a.table r fr k some (cases_Bool (touches e.state.records k));
           })
           (λ k. let all : total others k ≤ total others k = omega arith in all) s.stands s.apart;
@@ -278,10 +307,12 @@ completes_good story f code left m table ends first others records calls s comes
       owners = λ k g. owning e a.table r fr k g (cases_Bool (touches e.state.records k));
       words = λ k o. at k ∙ wording e a.table a.off r fr k o (cases_Bool (touches e.state.records k));
       clean = λ k.
-          ap (λ (x : Option Word). owner_at x) (at k) ∙ cleaning e a.table a.off fr k (cases_Bool (touches e.state.records k));
+          ap (λ (x : Option Word). owner_at x) (at k) ∙ cleaning e a.table a.off fr k
+          (cases_Bool (touches e.state.records k));
     }
   where
-    serial_stays : (e : Ended) (t : List Word) → ((k : ℕ) → touches e.state.records k ≡ false → slice_get t k ≡ slice_get (one_by_one ends first) k) →
+    serial_stays : (e : Ended) (t : List Word) → ((k : ℕ) → touches e.state.records k ≡ false →
+        slice_get t k ≡ slice_get (one_by_one ends first) k) →
         Freed f.number table (one_by_one ends first) others records e t →
         (k i own : ℕ) → HoldsWord i own (slice_get table k) → own ≤ total others k → (i ≡ 0 → ⊥) → (i ≡ f.number → ⊥) →
         (touches e.state.records k ≡ true) ⊎ (touches e.state.records k ≡ false) →
@@ -310,8 +341,10 @@ completes_good story f code left m table ends first others records calls s comes
         ∙ same_owner (slice_get e.state.table k) (slice_get table k) (r.holds.off k g)
         ∙ s.owners k (not_before records e.state.records k (r.grows k) g) free
 
-    wording : (e : Ended) (t : List Word) → ((k : ℕ) → touches e.state.records k ≡ false → slice_get t k ≡ slice_get (one_by_one ends first) k) →
-        Ran f.number table (one_by_one ends first) others records e → Freed f.number table (one_by_one ends first) others records e t →
+    wording : (e : Ended) (t : List Word) → ((k : ℕ) → touches e.state.records k ≡ false →
+        slice_get t k ≡ slice_get (one_by_one ends first) k) →
+        Ran f.number table (one_by_one ends first) others records e →
+        Freed f.number table (one_by_one ends first) others records e t →
         (k : ℕ) → owner_at (slice_get (released e.state.records e.state.table) k) ≡ 0 →
         (touches e.state.records k ≡ true) ⊎ (touches e.state.records k ≡ false) →
         slice_get (released e.state.records t) k ≡ seen 0 (slice_get (released e.state.records e.state.table) k)
@@ -325,7 +358,8 @@ completes_good story f code left m table ends first others records calls s comes
         released_off e.state.records t k g ∙ off k g ∙ s.words k owner ∙ sym same
         ∙ ap (λ (x : Option Word). seen 0 x) (sym stay)
 
-    cleaning : (e : Ended) (t : List Word) → ((k : ℕ) → touches e.state.records k ≡ false → slice_get t k ≡ slice_get (one_by_one ends first) k) →
+    cleaning : (e : Ended) (t : List Word) → ((k : ℕ) → touches e.state.records k ≡ false →
+        slice_get t k ≡ slice_get (one_by_one ends first) k) →
         Freed f.number table (one_by_one ends first) others records e t →
         (k : ℕ) → (touches e.state.records k ≡ true) ⊎ (touches e.state.records k ≡ false) →
         owner_at (slice_get (released e.state.records t) k) ≡ 0
@@ -337,7 +371,8 @@ completes_good story f code left m table ends first others records calls s comes
 
 -- ---- however it stops
 
-judged_well : (f : Frame) (why : Stop) (r0 : ℕ) (j : Stop) → judged f why r0 ≡ j → goes_well j ≡ true → goes_well why ≡ true
+judged_well : (f : Frame) (why : Stop) (r0 : ℕ) (j : Stop) → judged f why r0 ≡ j → goes_well j
+    ≡ true → goes_well why ≡ true
 judged_well f stop.Returns r0 j h well = refl
 judged_well f (stop.Waits id) r0 j h well = refl
 judged_well f (stop.Drops cause detail) r0 j h well = ap (λ (x : Stop). goes_well x) h ∙ well
@@ -356,13 +391,15 @@ abbrev left_with : List Waiting → List Ending → List Word → World
 left_with others ends t = record { table = t; waiting = others; ended = ends }
 
 -- a world in which a call was dropped
-pub drops_good : (story : Story) (f : Frame) (left : ℕ) (m : Machine) (table old : List Word) (ends : List Ending) (first : List Word)
+pub drops_good : (story : Story) (f : Frame) (left : ℕ) (m : Machine) (table old : List Word)
+    (ends : List Ending) (first : List Word)
     (others : List Waiting) (records made : List Record) (cause detail : ℕ) → AreSameCalls ends first →
     Slice f.number old (one_by_one ends first) others records → undone made table ≡ undone records old →
     not (cause == 0) ≡ true →
     Good (after_stop ends others story (found_by f left (state m table made) (stop.Drops cause detail))) first
 drops_good story f left m table old ends first others records made cause detail calls s kept some =
-    subst (λ (w : World). Good w first) (sym (by_cause (cause == 0) some ∙ ap (λ (t : List Word). left_with others ends t) kept))
+    subst (λ (w : World). Good w first)
+    (sym (by_cause (cause == 0) some ∙ ap (λ (t : List Word). left_with others ends t) kept))
     (dropped_good f.number old ends first others records calls s)
   where
     by_cause : (b : Bool) → not b ≡ true →
@@ -405,5 +442,6 @@ slice_good story f code left m table ends first others records calls s comes =
         let some : has_cause (stop.Drops cause detail) ≡ true =
         ap (λ (x : Stop). has_cause x) (sym h)
         ∙ judged_cause f e.stop (e.state.machine.regs 0) (run_cause f.number code left (state m table records)) in
-        drops_good story f e.left e.state.machine e.state.table table ends first others records e.state.records cause detail
+        drops_good story f e.left e.state.machine e.state.table table ends first others records
+        e.state.records cause detail
         calls s (run_kept f.number code left (state m table records)) some

@@ -1,5 +1,6 @@
 -- Whole histories: each event leaves a good world.
-use Rattle.std.proofs.Common.{arith, ◌≡◌, ℕ, zero, suc, Bool, true, false, List, [], ◌∷◌, Option, None, Some, refl, sym, ap, ◌∙◌}
+use Rattle.std.proofs.Common.{arith, ◌≡◌, ℕ, zero, suc, Bool, true, false, List, [], ◌∷◌, Option}
+use Rattle.std.proofs.Common.{None, Some, refl, sym, ap, ◌∙◌}
 use Rattle.std.specs.Prelude.{◌==◌, ◌&&◌, ◌||◌, not, slice_get, length, nat_le}
 use Rattle.std.proofs.lemmas.Bool.{or_parts, or_from, and_parts, eq-eqb, not_from_false}
 use Rattle.vino_host.specs.declared.Plugin.{Plugin}
@@ -9,10 +10,14 @@ use Rattle.vino_host.specs.declared.Word.{Word}
 use Rattle.vino_host.specs.Calls.{Pause, Found, found, first_frame, begun, code_of, call_says, resumed, is_call}
 use Rattle.vino_host.specs.Codes.{is_refusal}
 use Rattle.vino_host.specs.HostRuns.{state, host_run, with_r0}
-use Rattle.host_laws.specs.Histories.{Waiting, World, Event, Begins, Answers, number_of, is_new, without, whole, alone, after_answer}
-use Rattle.host_laws.specs.Histories.{after_stop, begun_story, answered_story, after_event, after, one_by_one, touches, is_touched, IsFree, CallsAreOneAtATime}
+use Rattle.host_laws.specs.Histories.{Waiting, World, Event, Begins, Answers, number_of, is_new}
+use Rattle.host_laws.specs.Histories.{without, whole, alone, after_answer}
+use Rattle.host_laws.specs.Histories.{after_stop, begun_story, answered_story, after_event, after}
+use Rattle.host_laws.specs.Histories.{one_by_one, touches, is_touched, IsFree, CallsAreOneAtATime}
 use Rattle.host_laws.proofs.Touching.{owner_at, readers_at, seen_alone}
-use Rattle.host_laws.proofs.Waiting.{Apart, Stands, IsReplayed, total_at, total_none, all_at, all_without, apart_at, distinct_without, new_apart, touched_owner}
+use Rattle.host_laws.proofs.Waiting.{Apart, Stands, IsReplayed, total_at, total_none, all_at}
+use Rattle.host_laws.proofs.Waiting.{all_without, apart_at, distinct_without, new_apart}
+use Rattle.host_laws.proofs.Waiting.{touched_owner}
 use Rattle.host_laws.proofs.Slicing.{Good, Slice}
 use Rattle.host_laws.proofs.Interleaving.{Comes, slice_good, drops_good}
 
@@ -33,7 +38,8 @@ begin_slice w first request fed good asked new =
       stands = good.stands;
       held = λ k h. cc;
       owns = λ k o. absurd (some (sym o
-          ∙ good.owners k (touched_owner w.table (one_by_one w.ended first) w.waiting k request.number good.stands apart some o)));
+          ∙ good.owners k (touched_owner w.table (one_by_one w.ended first) w.waiting k
+          request.number good.stands apart some o)));
       before = λ k h. cc;
       count = λ k. let is = good.count k in omega (arith, is);
       owners = λ k h g. good.owners k g;
@@ -53,7 +59,8 @@ begin_comes table plugin request fed segment b h = record { over = b; on = λ k 
 
 -- ---- a call is answered
 
-none_else : (cs : List Waiting) (i : ℕ) (c : Waiting) (k : ℕ) → slice_get cs i ≡ Some c → touches c.pause.records k ≡ false →
+none_else : (cs : List Waiting) (i : ℕ) (c : Waiting) (k : ℕ) → slice_get cs i ≡ Some c →
+    touches c.pause.records k ≡ false →
     is_touched (without i cs) k ≡ false → is_touched cs k ≡ false
 none_else [] i c k at h g = cc
 none_else (d ∷ cs) zero c k at h g =
@@ -86,7 +93,8 @@ answer_slice w first i c good at =
     }
 
 answer_comes : (table serial : List Word) (c : Waiting) (how x : ℕ) → (how == 0) ≡ true → Stands table serial c →
-    Comes (answered_story c.story how x) c.pause.frame (code_of c.story.plugin) c.pause.left (with_r0 x c.pause.machine) table
+    Comes (answered_story c.story how x) c.pause.frame (code_of c.story.plugin) c.pause.left
+    (with_r0 x c.pause.machine) table
     c.pause.records
 unfolding alone
 answer_comes table serial c how x word s b h =
@@ -101,7 +109,11 @@ answer_comes table serial c how x word s b h =
     by_pause : (f : Found) → f.pause ≡ Some c.pause →
         after_answer c.story.plugin how x f ≡ resumed c.story.plugin c.pause how x f.table
     by_pause f e =
-        ap (λ (o : Option Pause). elim o as (λ _. Found) [ None ↦ f | Some p ↦ resumed c.story.plugin p how x f.table ]) e
+        ap (λ (o : Option Pause). elim o as (λ _. Found) [
+          | None ↦ f
+          | Some p ↦
+              resumed c.story.plugin p how x f.table
+        ]) e
 
     by_word : (t : Bool) → t ≡ true →
         elim t as (λ _. Found) [
@@ -120,9 +132,11 @@ answer_comes table serial c how x word s b h =
     by_word true e = refl
     by_word false e = cc
 
-answer_good : (w : World) (first : List Word) (i : ℕ) (c : Waiting) (how x : ℕ) → Good w first → slice_get w.waiting i ≡ Some c →
+answer_good : (w : World) (first : List Word) (i : ℕ) (c : Waiting) (how x : ℕ) → Good w first →
+    slice_get w.waiting i ≡ Some c →
     (how == 0 || is_refusal how) ≡ true →
-    Good (after_stop w.ended (without i w.waiting) (answered_story c.story how x) (resumed c.story.plugin c.pause how x w.table)) first
+    Good (after_stop w.ended (without i w.waiting) (answered_story c.story how x)
+    (resumed c.story.plugin c.pause how x w.table)) first
 answer_good w first i c how x good at asked = by_word (how == 0) refl
   where
     by_word : (t : Bool) → (how == 0) ≡ t →
@@ -138,19 +152,23 @@ answer_good w first i c how x good at asked = by_word (how == 0) refl
           })
         ])) first
     by_word true e =
-        slice_good (answered_story c.story how x) c.pause.frame (code_of c.story.plugin) c.pause.left (with_r0 x c.pause.machine)
+        slice_good (answered_story c.story how x) c.pause.frame (code_of c.story.plugin)
+        c.pause.left (with_r0 x c.pause.machine)
         w.table w.ended first (without i w.waiting) c.pause.records good.calls (answer_slice w first i c good at)
         (answer_comes w.table (one_by_one w.ended first) c how x e
         (all_at (λ d. Stands w.table (one_by_one w.ended first) d) w.waiting i c good.stands at))
     by_word false e =
-        drops_good (answered_story c.story how x) c.pause.frame c.pause.left c.pause.machine w.table w.table w.ended first
-        (without i w.waiting) c.pause.records c.pause.records how c.pause.id good.calls (answer_slice w first i c good at) refl
+        drops_good (answered_story c.story how x) c.pause.frame c.pause.left c.pause.machine w.table
+        w.table w.ended first
+        (without i w.waiting) c.pause.records c.pause.records how c.pause.id good.calls
+        (answer_slice w first i c good at) refl
         (not_from_false (how == 0) e)
 
 -- ---- events
 
 event_good : (w : World) (first : List Word) (e : Event) → Good w first → Good (after_event w e) first
-event_good w first (Begins plugin request fed segment) good = by_test (is_call request fed && is_new request.number w.waiting) refl
+event_good w first (Begins plugin request fed segment) good =
+    by_test (is_call request fed && is_new request.number w.waiting) refl
   where
     by_test : (t : Bool) → (is_call request fed && is_new request.number w.waiting) ≡ t →
         Good (elim t as (λ _. World) [
@@ -161,7 +179,8 @@ event_good w first (Begins plugin request fed segment) good = by_test (is_call r
     by_test false e = good
     by_test true e =
         let parts = and_parts (is_call request fed) (is_new request.number w.waiting) e in
-        slice_good (begun_story plugin request fed segment) (first_frame request fed segment) (code_of plugin) request.limit
+        slice_good (begun_story plugin request fed segment) (first_frame request fed segment)
+        (code_of plugin) request.limit
         (begun plugin request fed segment) w.table w.ended first w.waiting [] good.calls
         (begin_slice w first request fed good parts.0 parts.1) (begin_comes w.table plugin request fed segment)
 event_good w first (Answers i how x) good = by_call (slice_get w.waiting i) refl
@@ -198,8 +217,10 @@ no_owner (Some w) h = h w refl
 all_good : (events : List Event) (first : List Word) → IsFree first → Good (after events first) first
 unfolding after one_by_one
 all_good [] first free =
-    let none : (k : ℕ) → readers_at (slice_get first k) ≡ 0 = λ k. no_readers (slice_get first k) (λ w h. (free k w h).1) in
-    let nobody : (k : ℕ) → owner_at (slice_get first k) ≡ 0 = λ k. no_owner (slice_get first k) (λ w h. (free k w h).0) in
+    let none : (k : ℕ) → readers_at (slice_get first k) ≡ 0 = λ k. no_readers (slice_get first k)
+    (λ w h. (free k w h).1) in
+    let nobody : (k : ℕ) → owner_at (slice_get first k) ≡ 0 = λ k. no_owner (slice_get first k)
+    (λ w h. (free k w h).0) in
     record {
       calls = tt;
       distinct = tt;
@@ -217,6 +238,7 @@ calls_are_one_at_a_time events table free =
     record {
       calls = good.calls;
       words = λ k g.
-          sym (seen_alone (slice_get (after events table).table k) (good.count k ∙ total_none (after events table).waiting k g))
+          sym (seen_alone (slice_get (after events table).table k)
+          (good.count k ∙ total_none (after events table).waiting k g))
           ∙ sym (good.words k (good.owners k g));
     }

@@ -9,8 +9,10 @@ use Rattle.vino_host.specs.declared.Stop.TheVariants as stop
 use Rattle.vino_host.specs.declared.Word.{Word}
 use Rattle.vino_host.specs.Codes.{BUSY, NO_RECORDS, BAD_ARGUMENT, NOT_CALLABLE}
 use Rattle.vino_host.specs.HostMachine.{host_step}
-use Rattle.vino_host.specs.HostRuns.{State, state, Ended, Stops, after_word, answered, after_answer, after_done, host_run, with_r0}
-use Rattle.vino_host.specs.Tables.{Serves, Gives, Refuses, is_open_to, may_serve, is_held, is_full, taken, record_of, readings, serves_word, serves}
+use Rattle.vino_host.specs.HostRuns.{State, state, Ended, Stops, after_word, answered, after_answer}
+use Rattle.vino_host.specs.HostRuns.{after_done, host_run, with_r0}
+use Rattle.vino_host.specs.Tables.{Serves, Gives, Refuses, is_open_to, may_serve, is_held, is_full}
+use Rattle.vino_host.specs.Tables.{taken, record_of, readings, serves_word, serves}
 use Rattle.host_laws.specs.Claims.{LeavesOthers, RunsLeaveOthers}
 
 -- a place that isn't written
@@ -33,7 +35,8 @@ set_leaves number k table w v at mine j u e f = by_place (cases_eq j k)
         let bad : true ≡ false = sym mine ∙ ap (λ (x : Word). is_open_to number x) (sym word) ∙ f in cc
     by_place (inr other) = get_other table k j v other ∙ e
 
-gives_leaves : (number id k v : ℕ) (table : List Word) (records : List Record) (x : ℕ) (t : List Word) (r : List Record) →
+gives_leaves : (number id k v : ℕ) (table : List Word) (records : List Record) (x : ℕ)
+    (t : List Word) (r : List Record) →
     serves number id k v table records ≡ Gives x t r → LeavesOthers number table t
 gives_leaves number id k v table records x t r h = by_word (slice_get table k) refl h
   where

@@ -1,5 +1,6 @@
 -- A plug-in's run and the run of its code alone, turn by turn.
-use Rattle.std.proofs.Common.{◌≡◌, ℕ, zero, suc, ◌-◌, ◌≤◌, List, [], ◌∷◌, map, Option, None, Some, refl, sym, ap, subst, ◌∙◌, arith}
+use Rattle.std.proofs.Common.{◌≡◌, ℕ, zero, suc, ◌-◌, ◌≤◌, List, [], ◌∷◌, map, Option, None, Some}
+use Rattle.std.proofs.Common.{refl, sym, ap, subst, ◌∙◌, arith}
 use Rattle.std.specs.Prelude.{slice_get}
 use Rattle.graft_code.specs.declared.Instr.{Instr}
 use Rattle.graft_code.specs.Machine.{Machine, Done, masked_place, step_by}
@@ -10,7 +11,8 @@ use Rattle.vino_host.specs.declared.Instruction.{Instruction}
 use Rattle.vino_host.specs.declared.Stop.{Stop}
 use Rattle.vino_host.specs.declared.Stop.TheVariants as stop
 use Rattle.vino_host.specs.HostMachine.{host_step, instr_of}
-use Rattle.vino_host.specs.HostRuns.{State, state, Ended, ended, Answered, Goes, Stops, answered, after_answer, after_done, host_run}
+use Rattle.vino_host.specs.HostRuns.{State, state, Ended, ended, Answered, Goes, Stops, answered}
+use Rattle.vino_host.specs.HostRuns.{after_answer, after_done, host_run}
 use Rattle.host_laws.specs.RawAnswers.{answer_of, answers_after, answers_of, halt_of}
 use Rattle.host_laws.specs.Claims.{IsRawRun, RunsAreRaw}
 use Rattle.host_laws.proofs.Masked.{steps_are_raw}
@@ -35,7 +37,8 @@ left_most : (number : ℕ) (code : List Instruction) (n : ℕ) (s : State) → (
 unfolding host_run
 left_most number code zero s = omega arith
 left_most number code (suc n) s =
-    let most = left_after number (host_run number code n) n (host_step code s.machine) s (λ q. left_most number code n q) in
+    let most = left_after number (host_run number code n) n (host_step code s.machine) s
+    (λ q. left_most number code n q) in
     omega (arith, most)
 
 raw_turn : (code : List Instr) (k : ℕ) (r : CodeRun) → r.ended ≡ None →
@@ -119,11 +122,16 @@ done_raw number code n (Done.Went m) s r rest em ee h ea =
 done_raw number code n (Done.Called id m) s r rest em ee h ea =
     answer_raw number code n id m s r (answered number id (state m s.table s.records)) rest
     (is_answered number id (state m s.table s.records)) ee h ea
-done_raw number code n Done.Returned s r rest em ee h ea = ended_raw (map instr_of code) n s stop.Returns AtReturn r em ee refl h
-done_raw number code n Done.DividedByZero s r rest em ee h ea = ended_raw (map instr_of code) n s (stop.Drops 1 0) AtDivision r em ee refl h
-done_raw number code n (Done.Trapped x) s r rest em ee h ea = ended_raw (map instr_of code) n s (stop.Drops 2 x) (AtTrap x) r em ee refl h
-done_raw number code n Done.Outside s r rest em ee h ea = ended_raw (map instr_of code) n s (stop.Drops 17 0) Astray r em ee refl h
-done_raw number code n Done.PastEnd s r rest em ee h ea = ended_raw (map instr_of code) n s (stop.Drops 17 0) Astray r em ee refl h
+done_raw number code n Done.Returned s r rest em ee h ea = ended_raw (map instr_of code) n s
+    stop.Returns AtReturn r em ee refl h
+done_raw number code n Done.DividedByZero s r rest em ee h ea = ended_raw (map instr_of code) n s
+    (stop.Drops 1 0) AtDivision r em ee refl h
+done_raw number code n (Done.Trapped x) s r rest em ee h ea = ended_raw (map instr_of code) n s
+    (stop.Drops 2 x) (AtTrap x) r em ee refl h
+done_raw number code n Done.Outside s r rest em ee h ea = ended_raw (map instr_of code) n s
+    (stop.Drops 17 0) Astray r em ee refl h
+done_raw number code n Done.PastEnd s r rest em ee h ea = ended_raw (map instr_of code) n s
+    (stop.Drops 17 0) Astray r em ee refl h
 
 pub runs_are_raw : RunsAreRaw
 unfolding host_run answers_of

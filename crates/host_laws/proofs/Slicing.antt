@@ -1,5 +1,6 @@
 -- One slice of a call among others that wait: what it leaves, whether it waits, completes or is dropped.
-use Rattle.std.proofs.Common.{◌+◌, ◌<◌, ◌≤◌, arith, ◌≡◌, ℕ, Bool, true, false, List, Option, refl, sym, ap, ◌∙◌, ◌⊎◌, inl, inr}
+use Rattle.std.proofs.Common.{◌+◌, ◌<◌, ◌≤◌, arith, ◌≡◌, ℕ, Bool, true, false, List, Option, refl}
+use Rattle.std.proofs.Common.{sym, ap, ◌∙◌, ◌⊎◌, inl, inr}
 use Rattle.std.specs.Prelude.{slice_get}
 use Rattle.std.proofs.lemmas.Bool.{cases_eq, cases_Bool}
 use Rattle.graft_code.specs.Machine.{Machine}
@@ -14,7 +15,8 @@ use Rattle.host_laws.specs.Histories.{Waiting, Ending, World, touches, is_touche
 use Rattle.host_laws.specs.Histories.{AreSameCalls}
 use Rattle.host_laws.proofs.Aloneness.{run_grows}
 use Rattle.host_laws.proofs.Holding.{Holds, run_holds}
-use Rattle.host_laws.proofs.Touching.{owner_at, readers_at, owner_seen, same_owner, touched_has, has_touched, undone_off, undone_readers}
+use Rattle.host_laws.proofs.Touching.{owner_at, readers_at, owner_seen, same_owner, touched_has}
+use Rattle.host_laws.proofs.Touching.{has_touched, undone_off, undone_readers}
 use Rattle.host_laws.proofs.Waiting.{All, Apart, Distinct, Stands, IsBefore, HoldsWord, Beside, total, others_beside}
 
 -- what holds of a world, where its completed calls leave `serial` one at a time
@@ -47,7 +49,8 @@ absurd_bool true h g = cc
 absurd_bool false h g = cc
 
 -- a word that is held by two calls is read by both
-pub both_hold : (n m own other : ℕ) (o : Option Word) → HoldsWord n own o → HoldsWord m other o → (m ≡ n → ⊥) → (n ≡ 0 → ⊥) →
+pub both_hold : (n m own other : ℕ) (o : Option Word) → HoldsWord n own o → HoldsWord m other o →
+    (m ≡ n → ⊥) → (n ≡ 0 → ⊥) →
     (m ≡ 0 → ⊥) → owner_at o ≡ 0
 both_hold n m own other o (inl e) (inl f) apart some more = absurd (apart (sym f ∙ e))
 both_hold n m own other o (inl e) (inr f) apart some more = f.0
@@ -81,14 +84,16 @@ dropped_beside n table serial others records s =
     came k some (inr g) = ap (λ (o : Option Word). owner_at o) (undone_off records table k g)
 
 -- a dropped call leaves no trace
-pub dropped_good : (n : ℕ) (table : List Word) (ends : List Ending) (first : List Word) (others : List Waiting) (records : List Record) →
+pub dropped_good : (n : ℕ) (table : List Word) (ends : List Ending) (first : List Word)
+    (others : List Waiting) (records : List Record) →
     AreSameCalls ends first → Slice n table (one_by_one ends first) others records →
     Good (record { table = undone records table; waiting = others; ended = ends }) first
 dropped_good n table ends first others records calls s =
     record {
       calls = calls;
       distinct = s.distinct;
-      stands = others_beside n (total others) table (one_by_one ends first) (undone records table) (one_by_one ends first) others
+      stands = others_beside n (total others) table (one_by_one ends first) (undone records table)
+          (one_by_one ends first) others
           (dropped_beside n table (one_by_one ends first) others records s)
           (λ k. let all : total others k ≤ total others k = omega arith in all) s.stands s.apart;
       count = λ k.
@@ -102,10 +107,12 @@ dropped_good n table ends first others records calls s =
     by_owner : (k : ℕ) → is_touched others k ≡ false → (touches records k ≡ true) ⊎ (touches records k ≡ false) →
         owner_at (slice_get (undone records table) k) ≡ 0
     by_owner k g (inl t) =
-        sym (owner_seen 0 (slice_get (undone records table) k)) ∙ ap (λ (o : Option Word). owner_at o) (sym (s.before k t)) ∙ s.clean k
+        sym (owner_seen 0 (slice_get (undone records table) k))
+        ∙ ap (λ (o : Option Word). owner_at o) (sym (s.before k t)) ∙ s.clean k
     by_owner k g (inr t) = ap (λ (o : Option Word). owner_at o) (undone_off records table k t) ∙ s.owners k t g
 
-    by_word : (k : ℕ) → owner_at (slice_get (undone records table) k) ≡ 0 → (touches records k ≡ true) ⊎ (touches records k ≡ false) →
+    by_word : (k : ℕ) → owner_at (slice_get (undone records table) k) ≡ 0 →
+        (touches records k ≡ true) ⊎ (touches records k ≡ false) →
         slice_get (one_by_one ends first) k ≡ seen 0 (slice_get (undone records table) k)
     by_word k o (inl t) = s.before k t
     by_word k o (inr t) =
@@ -115,7 +122,8 @@ dropped_good n table ends first others records calls s =
 -- ---- a run among others
 
 -- what a run leaves
-pub record Ran (n : ℕ) (table serial : List Word) (others : List Waiting) (records : List Record) (e : Ended) : Type 0 where
+pub record Ran (n : ℕ) (table serial : List Word) (others : List Waiting) (records : List Record)
+    (e : Ended) : Type 0 where
   pub grows : (k : ℕ) → touches records k ≡ true → touches e.state.records k ≡ true
   pub holds : Holds n (total others) table e.state.table e.state.records
   pub kept : undone e.state.records e.state.table ≡ undone records table
@@ -124,8 +132,10 @@ pub record Ran (n : ℕ) (table serial : List Word) (others : List Waiting) (rec
   pub stays : (k m own : ℕ) → HoldsWord m own (slice_get table k) → own ≤ total others k → (m ≡ 0 → ⊥) → (m ≡ n → ⊥) →
       seen 0 (slice_get e.state.table k) ≡ seen 0 (slice_get table k)
 
-pub ran : (n : ℕ) (code : List Instruction) (left : ℕ) (m : Machine) (table serial : List Word) (others : List Waiting) (records : List Record) →
-    Slice n table serial others records → Ran n table serial others records (host_run n code left (state m table records))
+pub ran : (n : ℕ) (code : List Instruction) (left : ℕ) (m : Machine) (table serial : List Word)
+    (others : List Waiting) (records : List Record) →
+    Slice n table serial others records → Ran n table serial others records
+    (host_run n code left (state m table records))
 ran n code left m table serial others records s =
     let e : Ended = host_run n code left (state m table records) in
     let grows : (k : ℕ) → touches records k ≡ true → touches e.state.records k ≡ true =
@@ -142,23 +152,27 @@ ran n code left m table serial others records s =
     } in
     let holds : Holds n (total others) table e.state.table e.state.records =
     run_holds n code left (state m table records) (total others) table s.some begins in
-    let kept : undone e.state.records e.state.table ≡ undone records table = run_kept n code left (state m table records) in
+    let kept : undone e.state.records e.state.table ≡ undone records table =
+    run_kept n code left (state m table records) in
     record {
       grows = grows;
       holds = holds;
       kept = kept;
       before = λ k g.
-          by_touch e.state.table e.state.records k kept (holds.held k g) (λ a b. holds.foreign k a b) (cases_Bool (touches records k));
+          by_touch e.state.table e.state.records k kept (holds.held k g)
+          (λ a b. holds.foreign k a b) (cases_Bool (touches records k));
       stays = λ k i own held few some other. by_holding e.state.table k i own held few some other
           (λ h. holds.shared k h) (λ a b. holds.foreign k a b);
     }
   where
-    by_holding : (new : List Word) (k i own : ℕ) → HoldsWord i own (slice_get table k) → own ≤ total others k → (i ≡ 0 → ⊥) → (i ≡ n → ⊥) →
+    by_holding : (new : List Word) (k i own : ℕ) → HoldsWord i own (slice_get table k) →
+        own ≤ total others k → (i ≡ 0 → ⊥) → (i ≡ n → ⊥) →
         (0 < total others k → seen 0 (slice_get new k) ≡ seen 0 (slice_get table k)) →
         ((owner_at (slice_get table k) ≡ 0 → ⊥) → (owner_at (slice_get table k) ≡ n → ⊥) →
         seen 0 (slice_get new k) ≡ seen 0 (slice_get table k)) →
         seen 0 (slice_get new k) ≡ seen 0 (slice_get table k)
-    by_holding new k i own (inl o) few some other shared foreign = foreign (λ z. some (sym o ∙ z)) (λ z. other (sym o ∙ z))
+    by_holding new k i own (inl o) few some other shared foreign = foreign (λ z. some (sym o ∙ z))
+        (λ z. other (sym o ∙ z))
     by_holding new k i own (inr p) few some other shared foreign =
         let much = p.1 in let more : 0 < total others k = omega (arith, much, few) in shared more
 
@@ -166,7 +180,8 @@ ran n code left m table serial others records s =
         HoldsWord n (readings k made) (slice_get new k) →
         ((owner_at (slice_get table k) ≡ 0 → ⊥) → (owner_at (slice_get table k) ≡ n → ⊥) →
         seen 0 (slice_get new k) ≡ seen 0 (slice_get table k)) →
-        (touches records k ≡ true) ⊎ (touches records k ≡ false) → slice_get serial k ≡ seen 0 (slice_get (undone made new) k)
+        (touches records k ≡ true) ⊎ (touches records k ≡ false) → slice_get serial k
+        ≡ seen 0 (slice_get (undone made new) k)
     by_touch new made k kept held foreign (inl g) =
         s.before k g ∙ ap (λ (t : List Word). seen 0 (slice_get t k)) (sym kept)
     by_touch new made k kept held foreign (inr g) =
@@ -183,6 +198,7 @@ ran n code left m table serial others records s =
         by_held some (inr p) =
             some (sym (same_owner (slice_get new k) (slice_get table k) (foreign some not_mine)) ∙ p.0)
 
-        free : (owner_at (slice_get table k) ≡ 0) ⊎ (owner_at (slice_get table k) ≡ 0 → ⊥) → owner_at (slice_get table k) ≡ 0
+        free : (owner_at (slice_get table k) ≡ 0) ⊎ (owner_at (slice_get table k) ≡ 0 → ⊥) →
+            owner_at (slice_get table k) ≡ 0
         free (inl z) = z
         free (inr some) = absurd (by_held some held)

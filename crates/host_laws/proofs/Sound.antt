@@ -1,5 +1,6 @@
 -- A run is dropped for a cause, which isn't 0.
-use Rattle.std.proofs.Common.{◌≡◌, ℕ, zero, suc, Bool, true, false, cond, not, List, [], ◌∷◌, ◌++◌, Option, None, Some, refl, sym, ap, ◌∙◌}
+use Rattle.std.proofs.Common.{◌≡◌, ℕ, zero, suc, Bool, true, false, cond, not, List, [], ◌∷◌, ◌++◌}
+use Rattle.std.proofs.Common.{Option, None, Some, refl, sym, ap, ◌∙◌}
 use Rattle.std.specs.Prelude.{◌==◌, nat_le, slice_get, slice_set}
 use Rattle.graft_code.specs.Machine.{Done}
 use Rattle.vino_host.specs.declared.Instruction.{Instruction}
@@ -9,8 +10,10 @@ use Rattle.vino_host.specs.declared.Stop.TheVariants as stop
 use Rattle.vino_host.specs.declared.Word.{Word}
 use Rattle.vino_host.specs.Codes.{BUSY, NO_RECORDS, BAD_ARGUMENT, NOT_CALLABLE}
 use Rattle.vino_host.specs.HostMachine.{host_step}
-use Rattle.vino_host.specs.HostRuns.{State, state, Ended, Stops, after_word, answered, after_answer, after_done, host_run, with_r0}
-use Rattle.vino_host.specs.Tables.{Serves, Gives, Refuses, may_serve, is_held, is_full, taken, record_of, serves_word, serves}
+use Rattle.vino_host.specs.HostRuns.{State, state, Ended, Stops, after_word, answered, after_answer}
+use Rattle.vino_host.specs.HostRuns.{after_done, host_run, with_r0}
+use Rattle.vino_host.specs.Tables.{Serves, Gives, Refuses, may_serve, is_held, is_full, taken}
+use Rattle.vino_host.specs.Tables.{record_of, serves_word, serves}
 
 -- it isn't dropped for no cause
 abbrev pub has_cause : Stop → Bool
@@ -39,15 +42,18 @@ refused_cause number id k v table records cause h = by_word (slice_get table k) 
         elim o [ None ↦ Refuses BAD_ARGUMENT | Some w ↦ serves_word number id k v table records w ] ≡ Refuses cause →
         not (cause == 0) ≡ true
     by_word None h = let same : 4 ≡ cause = cc in as_cause 4 same refl
-    by_word (Some w) h = by_tests (may_serve number id k records w) (is_held number id k records w) (is_full records w) w h
+    by_word (Some w) h = by_tests (may_serve number id k records w) (is_held number id k records w)
+        (is_full records w) w h
 
 answer_cause : (number id : ℕ) (rest : State → Ended) (left : ℕ) (s : State) →
-    ((q : State) → has_cause (rest q).stop ≡ true) → has_cause (after_answer rest left (answered number id s)).stop ≡ true
+    ((q : State) → has_cause (rest q).stop ≡ true) →
+    has_cause (after_answer rest left (answered number id s)).stop ≡ true
 answer_cause number id rest left s h = by_id (nat_le id 1) (nat_le id 15)
   where
     by_serves : (q : Serves) → serves number id (s.machine.regs 0) (s.machine.regs 1) s.table s.records ≡ q →
         has_cause (after_answer rest left (after_word id s q)).stop ≡ true
-    by_serves (Refuses cause) e = refused_cause number id (s.machine.regs 0) (s.machine.regs 1) s.table s.records cause e
+    by_serves (Refuses cause) e = refused_cause number id (s.machine.regs 0) (s.machine.regs 1)
+        s.table s.records cause e
     by_serves (Gives x t r) e = h (state (with_r0 x s.machine) t r)
 
     by_id : (a b : Bool) →
@@ -69,7 +75,8 @@ done_cause number rest left (Done.Trapped code) s h = refl
 done_cause number rest left Done.Outside s h = refl
 done_cause number rest left Done.PastEnd s h = refl
 
-pub run_cause : (number : ℕ) (code : List Instruction) (n : ℕ) (s : State) → has_cause (host_run number code n s).stop ≡ true
+pub run_cause : (number : ℕ) (code : List Instruction) (n : ℕ) (s : State) →
+    has_cause (host_run number code n s).stop ≡ true
 unfolding host_run
 run_cause number code zero s = refl
 run_cause number code (suc n) s =

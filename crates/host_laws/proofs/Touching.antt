@@ -1,5 +1,6 @@
 -- Words that records touched, and what undoing and releasing do at a place.
-use Rattle.std.proofs.Common.{◌≡◌, ◌+◌, ◌-◌, arith, ℕ, zero, suc, Bool, true, false, cond, List, [], ◌∷◌, Option, None, Some, refl, sym, ap, ◌∙◌, ◌⊎◌, inl, inr}
+use Rattle.std.proofs.Common.{◌≡◌, ◌+◌, ◌-◌, arith, ℕ, zero, suc, Bool, true, false, cond, List, []}
+use Rattle.std.proofs.Common.{◌∷◌, Option, None, Some, refl, sym, ap, ◌∙◌, ◌⊎◌, inl, inr}
 use Rattle.std.specs.Prelude.{◌==◌, ◌||◌, slice_get, slice_set}
 use Rattle.std.proofs.lemmas.Bool.{or_cases, or_parts, or_left, or_right, eqb-true, eqb-false, eq-eqb}
 use Rattle.vino_host.specs.declared.Record.{Record}
@@ -100,7 +101,11 @@ get_put_back r table k = by_word (slice_get table r.place) refl (r.place == k) r
           | Some y ↦ Some (as_before r w)
         ]) (slice_get table k)) same
         ∙ ap (λ (o : Option Word). elim o as (λ _. Option Word) [ None ↦ None | Some y ↦ Some (as_before r w) ]) word
-        ∙ ap (λ (o : Option Word). elim o as (λ _. Option Word) [ None ↦ None | Some y ↦ Some (as_before r y) ]) (sym word)
+        ∙ ap (λ (o : Option Word). elim o as (λ _. Option Word) [
+          | None ↦ None
+          | Some y ↦
+              Some (as_before r y)
+        ]) (sym word)
     by_word (Some w) e false same =
         get_set table r.place k (as_before r w)
         ∙ ap (λ (b : Bool). cond b (elim (slice_get table k) as (λ _. Option Word) [
@@ -128,7 +133,11 @@ get_released_at r table k = by_word (slice_get table r.place) refl (r.place == k
           | Some y ↦ Some (given_back r w)
         ]) (slice_get table k)) same
         ∙ ap (λ (o : Option Word). elim o as (λ _. Option Word) [ None ↦ None | Some y ↦ Some (given_back r w) ]) word
-        ∙ ap (λ (o : Option Word). elim o as (λ _. Option Word) [ None ↦ None | Some y ↦ Some (given_back r y) ]) (sym word)
+        ∙ ap (λ (o : Option Word). elim o as (λ _. Option Word) [
+          | None ↦ None
+          | Some y ↦
+              Some (given_back r y)
+        ]) (sym word)
     by_word (Some w) e false same =
         get_set table r.place k (given_back r w)
         ∙ ap (λ (b : Bool). cond b (elim (slice_get table k) as (λ _. Option Word) [
@@ -146,19 +155,22 @@ undone_off (r ∷ rs) table k h =
     get_put_back r (undone rs table) k
     ∙ ap (λ (b : Bool). put_word r b (slice_get (undone rs table) k)) parts.0 ∙ undone_off rs table k parts.1
 
-put_same : (r : Record) (b : Bool) (o p : Option Word) → seen 0 o ≡ seen 0 p → seen 0 (put_word r b o) ≡ seen 0 (put_word r b p)
+put_same : (r : Record) (b : Bool) (o p : Option Word) → seen 0 o ≡ seen 0 p →
+    seen 0 (put_word r b o) ≡ seen 0 (put_word r b p)
 put_same r true None None h = refl
 put_same r true None (Some w) h = cc
 put_same r true (Some w) None h = cc
 put_same r true (Some w) (Some v) h = refl
 put_same r false o p h = h
 
-pub undone_same : (rs : List Record) (table other : List Word) (k : ℕ) → seen 0 (slice_get table k) ≡ seen 0 (slice_get other k) →
+pub undone_same : (rs : List Record) (table other : List Word) (k : ℕ) → seen 0 (slice_get table k)
+    ≡ seen 0 (slice_get other k) →
     seen 0 (slice_get (undone rs table) k) ≡ seen 0 (slice_get (undone rs other) k)
 undone_same [] table other k h = h
 undone_same (r ∷ rs) table other k h =
     ap (λ (o : Option Word). seen 0 o) (get_put_back r (undone rs table) k)
-    ∙ put_same r (r.place == k) (slice_get (undone rs table) k) (slice_get (undone rs other) k) (undone_same rs table other k h)
+    ∙ put_same r (r.place == k) (slice_get (undone rs table) k) (slice_get (undone rs other) k)
+    (undone_same rs table other k h)
     ∙ ap (λ (o : Option Word). seen 0 o) (sym (get_put_back r (undone rs other) k))
 
 put_readers : (r : Record) (b : Bool) (o : Option Word) (n more : ℕ) → readers_at o ≡ n - more →
@@ -197,7 +209,8 @@ released_off (r ∷ rs) table k h =
     get_released_at r (released rs table) k
     ∙ ap (λ (b : Bool). free_word r b (slice_get (released rs table) k)) parts.0 ∙ released_off rs table k parts.1
 
-free_same : (r : Record) (b : Bool) (o p : Option Word) → seen 0 o ≡ seen 0 p → seen 0 (free_word r b o) ≡ seen 0 (free_word r b p)
+free_same : (r : Record) (b : Bool) (o p : Option Word) → seen 0 o ≡ seen 0 p →
+    seen 0 (free_word r b o) ≡ seen 0 (free_word r b p)
 free_same r true None None h = refl
 free_same r true None (Some w) h = cc
 free_same r true (Some w) None h = cc
@@ -208,12 +221,14 @@ free_same r true (Some w) (Some v) h =
     ]) h
 free_same r false o p h = h
 
-pub released_same : (rs : List Record) (table other : List Word) (k : ℕ) → seen 0 (slice_get table k) ≡ seen 0 (slice_get other k) →
+pub released_same : (rs : List Record) (table other : List Word) (k : ℕ) →
+    seen 0 (slice_get table k) ≡ seen 0 (slice_get other k) →
     seen 0 (slice_get (released rs table) k) ≡ seen 0 (slice_get (released rs other) k)
 released_same [] table other k h = h
 released_same (r ∷ rs) table other k h =
     ap (λ (o : Option Word). seen 0 o) (get_released_at r (released rs table) k)
-    ∙ free_same r (r.place == k) (slice_get (released rs table) k) (slice_get (released rs other) k) (released_same rs table other k h)
+    ∙ free_same r (r.place == k) (slice_get (released rs table) k) (slice_get (released rs other) k)
+    (released_same rs table other k h)
     ∙ ap (λ (o : Option Word). seen 0 o) (sym (get_released_at r (released rs other) k))
 
 -- ---- owners

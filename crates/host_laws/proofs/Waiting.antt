@@ -1,5 +1,6 @@
 -- The calls that wait in a world, and what stands of each of them.
-use Rattle.std.proofs.Common.{◌+◌, ◌<◌, ◌≤◌, arith, ◌≡◌, ℕ, zero, suc, Bool, true, false, List, [], ◌∷◌, Option, Some, refl, sym, ap, subst, ◌∙◌, ◌⊎◌, inl, inr}
+use Rattle.std.proofs.Common.{◌+◌, ◌<◌, ◌≤◌, arith, ◌≡◌, ℕ, zero, suc, Bool, true, false, List, []}
+use Rattle.std.proofs.Common.{◌∷◌, Option, Some, refl, sym, ap, subst, ◌∙◌, ◌⊎◌, inl, inr}
 use Rattle.std.specs.Prelude.{⊤, ◌==◌, not, slice_get}
 use Rattle.std.proofs.lemmas.Bool.{or_cases, or_parts, and_parts, false_from_ne_true, eq-eqb}
 use Rattle.vino_host.specs.declared.Record.{Record}
@@ -35,7 +36,8 @@ all_without P [] (suc i) all = all
 all_without P (c ∷ cs) zero all = all.1
 all_without P (c ∷ cs) (suc i) all = (all.0, all_without P cs i all.1)
 
-pub all_both : (P Q S : Waiting → Type 0) (cs : List Waiting) → ((c : Waiting) → P c → Q c → S c) → All P cs → All Q cs → All S cs
+pub all_both : (P Q S : Waiting → Type 0) (cs : List Waiting) → ((c : Waiting) → P c → Q c → S c) →
+    All P cs → All Q cs → All S cs
 all_both P Q S [] f p q = tt
 all_both P Q S (c ∷ cs) f p q = (f c p.0 q.0, all_both P Q S cs f p.1 q.1)
 
@@ -46,7 +48,8 @@ distinct_without (c ∷ cs) zero d = d.1
 distinct_without (c ∷ cs) (suc i) d =
     (all_without (λ e. number_of e ≡ number_of c → ⊥) cs i d.0, distinct_without cs i d.1)
 
-pub apart_at : (cs : List Waiting) (i : ℕ) (c : Waiting) → Distinct cs → slice_get cs i ≡ Some c → Apart (number_of c) (without i cs)
+pub apart_at : (cs : List Waiting) (i : ℕ) (c : Waiting) → Distinct cs → slice_get cs i ≡ Some c →
+    Apart (number_of c) (without i cs)
 apart_at [] i c d h = cc
 apart_at (e ∷ cs) zero c d h =
     let same : e ≡ c = cc in subst (λ (x : Waiting). Apart (number_of x) cs) same d.0
@@ -74,7 +77,8 @@ pub total_at : (cs : List Waiting) (i : ℕ) (c : Waiting) (k : ℕ) → slice_g
 total_at [] i c k h = cc
 total_at (d ∷ cs) zero c k h =
     let same : d ≡ c = cc in
-    let e : readings k d.pause.records ≡ readings k c.pause.records = ap (λ (x : Waiting). readings k x.pause.records) same in
+    let e : readings k d.pause.records ≡ readings k c.pause.records =
+    ap (λ (x : Waiting). readings k x.pause.records) same in
     omega (arith, e)
 total_at (d ∷ cs) (suc i) c k h = let rest = total_at cs i c k h in omega (arith, rest)
 
@@ -123,7 +127,8 @@ pub record Beside (n : ℕ) (others : ℕ → ℕ) (table serial new new_serial 
   pub came : (k : ℕ) → (owner_at (slice_get new k) ≡ 0 → ⊥) → (owner_at (slice_get new k) ≡ n → ⊥) →
       owner_at (slice_get new k) ≡ owner_at (slice_get table k)
 
-stands_beside : (n : ℕ) (others : ℕ → ℕ) (table serial new new_serial : List Word) → Beside n others table serial new new_serial →
+stands_beside : (n : ℕ) (others : ℕ → ℕ) (table serial new new_serial : List Word) →
+    Beside n others table serial new new_serial →
     (c : Waiting) → ((k : ℕ) → readings k c.pause.records ≤ others k) → Stands table serial c → (number_of c ≡ n → ⊥) →
     Stands new new_serial c
 stands_beside n others table serial new new_serial beside c few s other =
@@ -143,7 +148,8 @@ stands_beside n others table serial new new_serial beside c few s other =
             off = r.off;
           };
       before = λ k g.
-          beside.stays_serial k (number_of c) (readings k c.pause.records) (s.held k g) (few k) s.some other ∙ s.before k g
+          beside.stays_serial k (number_of c) (readings k c.pause.records) (s.held k g) (few k)
+          s.some other ∙ s.before k g
           ∙ sym (undone_same c.pause.records new table k (stays k g));
     }
   where
@@ -160,7 +166,8 @@ pub others_beside : (n : ℕ) (others : ℕ → ℕ) (table serial new new_seria
 others_beside n others table serial new new_serial [] beside few all apart = tt
 others_beside n others table serial new new_serial (c ∷ cs) beside few all apart = (
   stands_beside n others table serial new new_serial beside c
-      (λ k. let most = few k in let is : readings k c.pause.records ≤ others k = omega (arith, most) in is) all.0 apart.0,
+      (λ k. let most = few k in let is : readings k c.pause.records ≤ others k =
+      omega (arith, most) in is) all.0 apart.0,
   others_beside n others table serial new new_serial cs beside
       (λ k. let most = few k in let is : total cs k ≤ others k = omega (arith, most) in is) all.1 apart.1,
 )
@@ -168,7 +175,8 @@ others_beside n others table serial new new_serial (c ∷ cs) beside few all apa
 -- ---- who touched a word
 
 -- a word that belongs to a call of another number wasn't touched
-pub touched_owner : (table serial : List Word) (cs : List Waiting) (k n : ℕ) → All (λ c. Stands table serial c) cs → Apart n cs →
+pub touched_owner : (table serial : List Word) (cs : List Waiting) (k n : ℕ) →
+    All (λ c. Stands table serial c) cs → Apart n cs →
     (n ≡ 0 → ⊥) → owner_at (slice_get table k) ≡ n → is_touched cs k ≡ false
 touched_owner table serial cs k n all apart some owner = false_from_ne_true (is_touched cs k) (λ h. none cs all apart h)
   where

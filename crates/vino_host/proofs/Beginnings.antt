@@ -22,7 +22,8 @@ use Rattle.vino_host.proofs.Kept.{run_kept}
 use Rattle.vino_host.proofs.Stopping.{dropped, waiting}
 
 -- a call that begins
-pub begins : (plugin : Plugin) (request : Request) (bytes segment new : List ℕ) (table : List Word) (call : Call) (cpu : Machine) (x : Found) →
+pub begins : (plugin : Plugin) (request : Request) (bytes segment new : List ℕ) (table : List Word)
+    (call : Call) (cpu : Machine) (x : Found) →
     x ≡ found (frame_of call) (host_run call.number (code_of plugin) request.limit
     (state (machine_of cpu new) table (records_of call.log))) →
     frame_of call ≡ first_frame request bytes segment → records_of call.log ≡ [] →

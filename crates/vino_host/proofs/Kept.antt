@@ -9,8 +9,10 @@ use Rattle.vino_host.specs.declared.Word.{Word}
 use Rattle.vino_host.specs.Codes.{BUSY, NO_RECORDS, BAD_ARGUMENT, NOT_CALLABLE}
 use Rattle.vino_host.specs.declared.Stop.TheVariants as stop
 use Rattle.vino_host.specs.HostMachine.{host_step}
-use Rattle.vino_host.specs.HostRuns.{State, state, Ended, Answered, after_word, answered, after_answer, after_done, host_run, with_r0}
-use Rattle.vino_host.specs.Tables.{Serves, Gives, Refuses, may_serve, is_held, is_full, taken, record_of, serves_word, serves, undone}
+use Rattle.vino_host.specs.HostRuns.{State, state, Ended, Answered, after_word, answered}
+use Rattle.vino_host.specs.HostRuns.{after_answer, after_done, host_run, with_r0}
+use Rattle.vino_host.specs.Tables.{Serves, Gives, Refuses, may_serve, is_held, is_full, taken}
+use Rattle.vino_host.specs.Tables.{record_of, serves_word, serves, undone}
 use Rattle.vino_host.proofs.Undoing.{undone_behind, set_back}
 
 -- the table with which a run began
@@ -30,7 +32,8 @@ gives_kept number id k v table records x t r h = by_word (slice_get table k) ref
     by_tests true true c w e h = cc
     by_tests true false true w e h = cc
     by_tests true false false w e h =
-        let back : undone (records ++ record_of id k w ∷ []) (slice_set table k (taken number id v w)) ≡ undone records table =
+        let back : undone (records ++ record_of id k w ∷ [])
+        (slice_set table k (taken number id v w)) ≡ undone records table =
         undone_behind records (record_of id k w) (slice_set table k (taken number id v w))
         ∙ ap (λ (u : List Word). undone records u) (set_back table number id k v w e) in cc
 

@@ -24,7 +24,8 @@ pub record IsWaiting (f : Frame) (s : State) (call : Call) (table : List Word) :
   pub records_are : records_of call.log ≡ s.records
   pub table_is : table ≡ s.table
 
-dropped_by : (f : Frame) (left : ℕ) (s : State) (st : Stop) (r : Answer) (call : Call) (segment : List ℕ) (table : List Word) →
+dropped_by : (f : Frame) (left : ℕ) (s : State) (st : Stop) (r : Answer) (call : Call)
+    (segment : List ℕ) (table : List Word) →
     found_in r call segment table ≡ found_by f left s st → is_drop r.kind ≡ true → IsDropped f s segment table
 dropped_by f left s stop.Returns r call segment table h d =
     let k : r.kind ≡ 0 = ap (λ (x : Found). x.answer.kind) h in
@@ -49,7 +50,8 @@ no_pause : (b : Bool) (p : Pause) → b ≡ true → cond b (Some p) None ≡ No
 no_pause true p e h = cc
 no_pause false p e h = cc
 
-waiting_by : (f : Frame) (left : ℕ) (s : State) (st : Stop) (r : Answer) (call : Call) (segment : List ℕ) (table : List Word) →
+waiting_by : (f : Frame) (left : ℕ) (s : State) (st : Stop) (r : Answer) (call : Call)
+    (segment : List ℕ) (table : List Word) →
     found_in r call segment table ≡ found_by f left s st → (call.state == 1) ≡ true → IsWaiting f s call table
 waiting_by f left s stop.Returns r call segment table h d =
     absurd (no_pause (call.state == 1) (pause_in call segment) d (ap (λ (x : Found). x.pause) h))
@@ -69,7 +71,8 @@ pub waiting : (f : Frame) (e : Ended) (r : Answer) (call : Call) (segment : List
 waiting f e r call segment table h d =
     waiting_by f e.left e.state (judged f e.stop (e.state.machine.regs 0)) r call segment table h d
 
-steps_by : (f : Frame) (left : ℕ) (s : State) (st : Stop) (r : Answer) (call : Call) (segment : List ℕ) (table : List Word) →
+steps_by : (f : Frame) (left : ℕ) (s : State) (st : Stop) (r : Answer) (call : Call)
+    (segment : List ℕ) (table : List Word) →
     found_in r call segment table ≡ found_by f left s st → r.steps ≡ f.limit - left
 steps_by f left s stop.Returns r call segment table h = ap (λ (x : Found). x.answer.steps) h
 steps_by f left s (stop.Waits id) r call segment table h = ap (λ (x : Found). x.answer.steps) h
@@ -79,4 +82,5 @@ steps_by f left s (stop.Drops cause detail) r call segment table h = ap (λ (x :
 pub steps_most : (f : Frame) (e : Ended) (r : Answer) (call : Call) (segment : List ℕ) (table : List Word) →
     found_in r call segment table ≡ found f e → r.steps ≤ f.limit
 steps_most f e r call segment table h =
-    let is = steps_by f e.left e.state (judged f e.stop (e.state.machine.regs 0)) r call segment table h in omega (arith, is)
+    let is = steps_by f e.left e.state (judged f e.stop (e.state.machine.regs 0)) r call segment
+    table h in omega (arith, is)

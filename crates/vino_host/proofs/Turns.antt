@@ -26,7 +26,8 @@ no_turn number code zero s e none all = all
 no_turn number code (suc n) s e none all = absurd (omega (arith, none))
 
 -- one that calls
-pub turn_called : (number : ℕ) (code : List Instruction) (n id : ℕ) (s : State) (m : Machine) (a : Answered) (e : Ended) →
+pub turn_called : (number : ℕ) (code : List Instruction) (n id : ℕ) (s : State) (m : Machine)
+    (a : Answered) (e : Ended) →
     0 < n → host_step code s.machine ≡ Done.Called id m →
     answered number id (state m s.table s.records) ≡ a → host_run number code n s ≡ e →
     after_answer (host_run number code (n - 1)) (n - 1) a ≡ e

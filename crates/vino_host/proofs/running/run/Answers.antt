@@ -57,7 +57,8 @@ returns-in-Returned c =
     let stops : goes_on c.step.result ≡ false = ap (λ (o : Outcome). goes_on o) c.in-Returned.is in
     ap (λ (s : Stopped). ended s.stop s.left (state (machine_of s.machine c.step.new.segment) table records))
     c.stopped-in-Returned.ensures
-    ∙ ap (λ (x : Machine). ended (stop.Returns) (c.turns.left - 1) (state (machine_of x c.step.new.segment) table records))
+    ∙ ap (λ (x : Machine). ended (stop.Returns) (c.turns.left - 1)
+    (state (machine_of x c.step.new.segment) table records))
     (c.step.ensures.ended stops)
     ∙ ap (λ (x : List ℕ). ended (stop.Returns) (c.turns.left - 1) (state (machine_of c.turns.machine x) table records))
     (c.step.ensures.memory stops)
@@ -73,9 +74,11 @@ returns-in-DividedByZero c =
     let stops : goes_on c.step.result ≡ false = ap (λ (o : Outcome). goes_on o) c.in-DividedByZero.is in
     ap (λ (s : Stopped). ended s.stop s.left (state (machine_of s.machine c.step.new.segment) table records))
     c.stopped-in-DividedByZero.ensures
-    ∙ ap (λ (x : Machine). ended (stop.Drops DIVIDED 0) (c.turns.left - 1) (state (machine_of x c.step.new.segment) table records))
+    ∙ ap (λ (x : Machine). ended (stop.Drops DIVIDED 0) (c.turns.left - 1)
+    (state (machine_of x c.step.new.segment) table records))
     (c.step.ensures.ended stops)
-    ∙ ap (λ (x : List ℕ). ended (stop.Drops DIVIDED 0) (c.turns.left - 1) (state (machine_of c.turns.machine x) table records))
+    ∙ ap (λ (x : List ℕ). ended (stop.Drops DIVIDED 0) (c.turns.left - 1)
+    (state (machine_of c.turns.machine x) table records))
     (c.step.ensures.memory stops)
     ∙ turn c.args.number c.args.code.now c.turns.left
     (state (machine_of c.turns.machine c.turns.segment) table records) (Done.DividedByZero) _ c.turns-test.true
@@ -89,12 +92,15 @@ returns-in-Trapped c =
     let stops : goes_on c.step.result ≡ false = ap (λ (o : Outcome). goes_on o) c.in-Trapped.is in
     ap (λ (s : Stopped). ended s.stop s.left (state (machine_of s.machine c.step.new.segment) table records))
     c.stopped-in-Trapped.ensures
-    ∙ ap (λ (x : Machine). ended (stop.Drops TRAPPED c.in-Trapped.code) (c.turns.left - 1) (state (machine_of x c.step.new.segment) table records))
+    ∙ ap (λ (x : Machine). ended (stop.Drops TRAPPED c.in-Trapped.code) (c.turns.left - 1)
+    (state (machine_of x c.step.new.segment) table records))
     (c.step.ensures.ended stops)
-    ∙ ap (λ (x : List ℕ). ended (stop.Drops TRAPPED c.in-Trapped.code) (c.turns.left - 1) (state (machine_of c.turns.machine x) table records))
+    ∙ ap (λ (x : List ℕ). ended (stop.Drops TRAPPED c.in-Trapped.code) (c.turns.left - 1)
+    (state (machine_of c.turns.machine x) table records))
     (c.step.ensures.memory stops)
     ∙ turn c.args.number c.args.code.now c.turns.left
-    (state (machine_of c.turns.machine c.turns.segment) table records) (Done.Trapped c.in-Trapped.code) _ c.turns-test.true
+    (state (machine_of c.turns.machine c.turns.segment) table records)
+    (Done.Trapped c.in-Trapped.code) _ c.turns-test.true
     (c.step.ensures.done ∙ ap (λ (o : Outcome). done_of o k) c.in-Trapped.is) c.turns.invariant
 
 pub returns-in-PastEnd : goal.returns-in-PastEnd
@@ -105,9 +111,11 @@ returns-in-PastEnd c =
     let stops : goes_on c.step.result ≡ false = ap (λ (o : Outcome). goes_on o) c.in-PastEnd.is in
     ap (λ (s : Stopped). ended s.stop s.left (state (machine_of s.machine c.step.new.segment) table records))
     c.stopped-in-PastEnd.ensures
-    ∙ ap (λ (x : Machine). ended (stop.Drops BROKEN 0) (c.turns.left - 1) (state (machine_of x c.step.new.segment) table records))
+    ∙ ap (λ (x : Machine). ended (stop.Drops BROKEN 0) (c.turns.left - 1)
+    (state (machine_of x c.step.new.segment) table records))
     (c.step.ensures.ended stops)
-    ∙ ap (λ (x : List ℕ). ended (stop.Drops BROKEN 0) (c.turns.left - 1) (state (machine_of c.turns.machine x) table records))
+    ∙ ap (λ (x : List ℕ). ended (stop.Drops BROKEN 0) (c.turns.left - 1)
+    (state (machine_of c.turns.machine x) table records))
     (c.step.ensures.memory stops)
     ∙ turn c.args.number c.args.code.now c.turns.left
     (state (machine_of c.turns.machine c.turns.segment) table records) (Done.PastEnd) _ c.turns-test.true

@@ -22,4 +22,5 @@ pub returns : goal.returns
 returns c =
     let all = c.records.invariant in
     let none : c.records.n ≡ 0 = omega (arith, c.records-test.false) in
-    subst (λ (n : ℕ). undone (take n c.args.log.now.records) c.records.table ≡ undone (records_of c.args.log.now) c.args.table.now) none all.1
+    subst (λ (n : ℕ). undone (take n c.args.log.now.records) c.records.table
+    ≡ undone (records_of c.args.log.now) c.args.table.now) none all.1
