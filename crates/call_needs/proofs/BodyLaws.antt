@@ -1,7 +1,7 @@
 -- What an answer gives is a range of memory.
 use Rattle.std.proofs.Common.{◌≡◌, ℕ, ◌+◌, ◌-◌, ◌*◌, ◌<◌, ◌≤◌, true, List, [], Option, None, Some}
 use Rattle.std.proofs.Common.{min, length, get_or, take, drop, map, sym, ap, ◌∙◌, refl, arith}
-use Rattle.std.proofs.Common.{length-drop, length-take-le, zero, suc, ◌∷◌, ◌++◌}
+use Rattle.std.proofs.Common.{length-append, length-drop, length-take-le, zero, suc, ◌∷◌, ◌++◌}
 use Rattle.std.specs.List.{range_with_len, slice_index, slice_range}
 use Rattle.std.proofs.lemmas.Bool.Decides.{nat_tests}
 use Rattle.std.proofs.lemmas.Grind.{same_number_lists}
@@ -107,3 +107,25 @@ take_behind m n [] ys less =
 take_behind m n (x ∷ xs) ys less =
     let one : length (x ∷ xs) + n ≡ suc (length xs + n) = omega arith in
     ap (λ k. take k (x ∷ (xs ++ take m ys))) one ∙ ap (λ zs. x ∷ zs) (take_behind m n xs ys less)
+
+-- the front of two lists
+take_front : (n : ℕ) (xs ys : List ℕ) → n ≤ length xs → take n (xs ++ ys) ≡ take n xs
+take_front zero xs ys h = refl
+take_front (suc n) [] ys h = absurd (omega (arith, h))
+take_front (suc n) (x ∷ xs) ys h = ap (λ zs. x ∷ zs) (take_front n xs ys (omega (arith, h)))
+
+-- some of the bytes in place of those from a place on, of which more were put there
+pub put_front : (at n m : ℕ) (old new block from : List ℕ) → at + 512 ≤ length old →
+    length block ≡ 512 → n ≤ m → m ≤ 512 → from ≡ take m block →
+    new ≡ take at old ++ from ++ drop (at + length from) old →
+    take (at + n) new ≡ take at old ++ take n block
+put_front at n m old new block from fits whole less most is put =
+    let kept : length (take at old) ≡ at = length-take-le at old (omega (arith, fits)) in
+    let long : length (take m block) ≡ m = length-take-le m block (omega (arith, whole, most)) in
+    let both = length-append (take at old) (take m block) in
+    ap (take (at + n)) put
+    ∙ ap (λ xs. take (at + n) (take at old ++ xs ++ drop (at + length from) old)) is
+    ∙ take_front (at + n) (take at old ++ take m block) (drop (at + length from) old)
+    (omega (arith, kept, long, both, less))
+    ∙ ap (λ k. take (k + n) (take at old ++ take m block)) (sym kept)
+    ∙ take_behind m n (take at old) block less

@@ -1,7 +1,7 @@
 //! The bytes that a piece gives.
 
 ghost use Rattle.std.specs.Prelude.{◌≡◌, ◌≤◌, ◌<◌, ◌+◌, ◌++◌, true, Some, None, drop, length};
-ghost use Rattle.std.specs.Prelude.{slice_range, take, is_some, vec_capacity, IfSome, IfNone};
+ghost use Rattle.std.specs.Prelude.{slice_range, take, is_some, IfSome, IfNone};
 ghost use Rattle.kernel_model.specs.Fetch.{bytes_of};
 ghost use Rattle.kernel_state.specs.Frames.{in_use};
 ghost use Rattle.kernel_state.specs.Stores.{body_at, cache_of};
@@ -100,14 +100,17 @@ impl Gift {
         self.count = len as usize;
     }
 
-    /// Puts the bytes that were given behind others, where there is room for a block.
-    pub fn append_to(&self, bytes: &mut Vec<u8>)
+    /// Puts the bytes that were given from a place on, behind which a block fits. What stands
+    /// before the place stays.
+    #[inline(always)]
+    pub fn copy_to(&self, bytes: &mut [u8], at: usize)
         requires given { is_some self.now ≡ true }
-        requires room { length bytes.old.items + 512 ≤ vec_capacity bytes.old }
-        ensures bytes { IfSome self.now (λ b. bytes.new.items ≡ bytes.old.items ++ b) }
-        ensures room { vec_capacity bytes.old ≤ vec_capacity bytes.new }
+        requires fits { at + 512 ≤ length bytes.old }
+        ensures bytes { IfSome self.now (λ b. take (at + length b) bytes.new
+            ≡ take at bytes.old ++ b) }
+        ensures size { length bytes.new ≡ length bytes.old }
     {
-        put_behind(bytes, &self.block, self.count);
+        put_at(bytes, at, &self.block, self.count);
     }
 }
 
@@ -134,19 +137,27 @@ fn put_range(block: &mut [u8], frame: &[u8], off: usize, len: usize)
     }
 }
 
-/// Puts the first bytes of a block, so many, behind others.
-fn put_behind(bytes: &mut Vec<u8>, block: &[u8], count: usize)
+/// Puts bytes in place of those from a place on.
+#[inline(always)]
+fn put_over(bytes: &mut [u8], at: usize, from: &[u8])
+    requires { at + length from.now ≤ length bytes.old }
+    ensures { bytes.new ≡ take at bytes.old ++ from.now ++ drop (at + length from.now) bytes.old }
+{
+    bytes[at..at + from.len()].copy_from_slice(from);
+}
+
+/// Puts the first bytes of a block, so many, from a place on, behind which the block fits.
+#[inline(always)]
+fn put_at(bytes: &mut [u8], at: usize, block: &[u8], count: usize)
     requires block { length block.now ≡ 512 }
     requires count { count ≤ 512 }
-    requires room { length bytes.old.items + 512 ≤ vec_capacity bytes.old }
-    ensures bytes { bytes.new.items ≡ bytes.old.items ++ take count block.now }
-    ensures room { vec_capacity bytes.old ≤ vec_capacity bytes.new }
+    requires fits { at + 512 ≤ length bytes.old }
+    ensures bytes { take (at + count) bytes.new ≡ take at bytes.old ++ take count block.now }
+    ensures size { length bytes.new ≡ length bytes.old }
 {
     if count > FEW {
-        let _ = bytes.extend_from_slice(&block[..count]);
-        return;
+        put_over(bytes, at, &block[..count]);
+    } else {
+        put_over(bytes, at, &block[..FEW]);
     }
-    let end = bytes.len() + count;
-    let _ = bytes.extend_from_slice(&block[..FEW]);
-    bytes.truncate(end);
 }

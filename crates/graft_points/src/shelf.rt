@@ -18,6 +18,7 @@ ghost use Rattle.graft_points.specs.Shelf.{head_of};
 use crate::ask::Ask;
 use crate::choice::Choice;
 use crate::policy::Policy;
+use fixed_room::Room;
 use kernel_model::{FrameRow, OpenRow, QueueRow};
 use std::alloc::AllocError;
 use std::marker::Model;
@@ -28,7 +29,7 @@ pub const POLICIES: usize = 7;
 /// Policies, seen as the list of what is seen of each.
 #[derive(Drop)]
 pub struct Shelf<B: Policy> {
-    boxes: Vec<B>,
+    boxes: Room<B>,
 }
 
 impl<B: Policy> Model for Shelf<B> {
@@ -193,7 +194,9 @@ impl<B: Policy> Shelf<B> {
     pub fn of(boxes: Vec<B>) -> Shelf<B>
         ensures { result ≡ map B.seen boxes.items }
     {
-        Shelf { boxes }
+        Shelf {
+            boxes: Room::of(boxes),
+        }
     }
 
     /// The policies, in the order of the shelf.

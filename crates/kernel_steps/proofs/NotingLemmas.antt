@@ -1,9 +1,10 @@
 -- One more note of those that are kept as rows and bytes.
 use Rattle.std.proofs.Common.{◌≡◌, ℕ, zero, suc, ◌≤◌, ◌+◌, ◌*◌, List, [], ◌∷◌, ◌++◌, take, length}
 use Rattle.std.proofs.Common.{refl, ap, sym, ◌∙◌, arith, subst}
-use Rattle.std.specs.Prelude.{cond, drop, ◌<◌, Option, None, Some, IfSome}
-use Rattle.std.proofs.lemmas.List.{length-append, length_push}
+use Rattle.std.specs.Prelude.{cond, drop, replicate, ◌<◌, ◌-◌, Option, None, Some, IfSome}
+use Rattle.std.proofs.lemmas.List.{length-append, length-replicate, length_push}
 use Rattle.std.proofs.lemmas.List.Sums.{sum_by-append}
+use Rattle.std.proofs.Math.Seq.{take-append_seam}
 use Rattle.kernel_model.specs.declared.BareNote.{BareNote}
 use Rattle.kernel_model.specs.declared.Note.{Note}
 use Rattle.kernel_model.specs.Bare.{given_count, note_with, notes_with}
@@ -72,31 +73,51 @@ given_added (x ∷ list) bytes note more given count few =
           (given_added list (drop n bytes) note more given.2 count few),
     )
 
+-- what is written through a list's own slice
+written : (new old : List ℕ) (n : ℕ) → length new ≡ n → take n (new ++ drop (length new) old) ≡ new
+written new old n h = rw (sym h) (take-append_seam new (drop (length new) old))
+
+-- bytes put behind the first so many, after zeros that were put there before them
+pub put_whole : (kept zeros reached put old : List ℕ) (n size : ℕ) (gave : Option (List ℕ)) →
+    reached ≡ kept ++ zeros → size ≤ length kept → length put ≡ n →
+    IfSome gave (λ b. take (size + length b) put ≡ take size reached ++ b) →
+    IfSome gave (λ b. take (size + length b) (take n (put ++ drop (length put) old)) ≡ take size kept ++ b)
+put_whole kept zeros reached put old n size None is within long given = tt
+put_whole kept zeros reached put old n size (Some b) is within long given =
+    ap (take (size + length b)) (written put old n long) ∙ given
+    ∙ ap (λ xs. take size xs ++ b) is ∙ ap (λ xs. xs ++ b) (take_front size kept zeros within)
+
 -- the bytes of the notes with those that were given behind them
-pub given_whole : (bytes kept new more : List ℕ) (size : ℕ) (gave : Option (List ℕ)) →
-    kept ≡ bytes → gave ≡ Some more → IfSome gave (λ b. new ≡ kept ++ b) → size ≡ length new →
-    take size new ≡ bytes ++ more
-given_whole bytes kept new more size gave same some given whole =
-    let put : new ≡ kept ++ more = subst (λ (o : Option (List ℕ)). IfSome o (λ b. new ≡ kept ++ b)) some given in
-    ap (λ n. take n new) whole ∙ take_all new ∙ put ∙ ap (λ xs. xs ++ more) same
+pub given_whole : (bytes front more : List ℕ) (size : ℕ) (gave : Option (List ℕ)) →
+    gave ≡ Some more → IfSome gave (λ b. take (size + length b) bytes ≡ front ++ b) →
+    take (size + length more) bytes ≡ front ++ more
+given_whole bytes front more size gave some given =
+    subst (λ (o : Option (List ℕ)). IfSome o (λ b. take (size + length b) bytes ≡ front ++ b)) some given
+
+-- as many bytes as were reached
+pub reaches : (kept reached : List ℕ) (end : ℕ) → reached ≡ kept ++ replicate (end - length kept) 0 →
+    end ≤ length reached
+reaches kept reached end is =
+    let long = ap length is in
+    let both = length-append kept (replicate (end - length kept) 0) in
+    let more = length-replicate {A = ℕ} (end - length kept) 0 in
+    omega (arith, long, both, more)
 
 -- one note more, and its bytes
 pub fit_added : (list new_list : List BareNote) (bytes new_bytes more : List ℕ) (note : BareNote)
     (list_room bytes_room new_list_room new_bytes_room : ℕ) →
     NotesFit list bytes list_room bytes_room → length list < 530 → given_count note ≡ length more → length more ≤ 512 →
-    new_list ≡ list ++ note ∷ [] → new_bytes ≡ bytes ++ more → list_room ≤ new_list_room → bytes_room ≤ new_bytes_room →
+    new_list ≡ list ++ note ∷ [] → new_bytes ≡ bytes ++ more → new_list_room ≡ list_room → new_bytes_room ≡ bytes_room →
     NotesFit new_list new_bytes new_list_room new_bytes_room
 fit_added list new_list bytes new_bytes more note list_room bytes_room new_list_room new_bytes_room
-    fit room count few is_list is_bytes wide_list wide_bytes =
+    fit room count few is_list is_bytes same_list same_bytes =
     let many : length new_list ≡ length list + 1 = ap length is_list ∙ length_push list note in
     let size : length new_bytes ≡ length bytes + length more = ap length is_bytes ∙ length-append bytes more in
-    let rows = fit.rows in
     let few_bytes = fit.few_bytes in
-    let wide = fit.room in
     record {
-      rows = omega arith;
+      rows = same_list ∙ fit.rows;
       few = omega arith;
-      room = omega arith;
+      room = same_bytes ∙ fit.room;
       few_bytes = omega arith;
       given = subst (λ xs. AreGiven xs new_bytes) (sym is_list)
           (subst (AreGiven (list ++ note ∷ [])) (sym is_bytes) (given_added list bytes note more fit.given count few));

@@ -10,11 +10,11 @@ AreGiven (note ∷ notes) bytes =
     (given_count note ≤ 512) × (given_count note ≤ length bytes)
     × AreGiven notes (drop (given_count note) bytes)
 
--- The bytes are those of the notes, and there is room for those of one event.
+-- The bytes are those of the notes, and there is room for those of one event, and no more.
 pub record NotesFit (list : List BareNote) (bytes : List ℕ) (list_room bytes_room : ℕ) :
     Type 0 where
-  pub rows : 530 ≤ list_room
+  pub rows : list_room ≡ 530
   pub few : length list ≤ 530
-  pub room : 271360 ≤ bytes_room
+  pub room : bytes_room ≡ 271360
   pub few_bytes : length bytes ≤ 512 * length list
   pub given : AreGiven list bytes

@@ -18,6 +18,7 @@ ghost use Rattle.kernel_steps.specs.Runs.{ChangesNoting, ChangesTo};
 use crate::notes::Notes;
 use arrayvec::ArrayVec;
 use call_pieces::{Calls, Policy, Store};
+use fixed_room::Room;
 use graft_levels::Images;
 use kernel_model::{BLOCK_BYTES, BareCall, BareNote, Refusal};
 use running_kernel::{Flight, Running, Slot, Waiting};
@@ -64,7 +65,7 @@ fn begin_in<C: Calls, B: Policy>(
 
 /// A call of process p, which lives, begins in its place, unless it is refused at once.
 fn begin_flight<C: Calls, B: Policy>(
-    flights: &mut Vec<Flight>,
+    flights: &mut Room<Flight>,
     store: &Store<B>,
     images: &Images,
     p: u8,
@@ -81,7 +82,7 @@ fn begin_flight<C: Calls, B: Policy>(
 }
 
 /// A process has no call.
-fn end_call(flights: &mut Vec<Flight>, p: u8)
+fn end_call(flights: &mut Room<Flight>, p: u8)
     requires { p < length flights.old.items }
     ensures { flights.new.items ≡ slice_set flights.old.items p
         (record (flight_of flights.old.items p) { call = None }) }

@@ -1,12 +1,14 @@
 //! The notes of an event.
 
-ghost use Rattle.std.specs.Prelude.{◌≡◌, ◌≤◌, ◌<◌, ◌*◌, ◌+◌, ◌++◌, Some, [], ◌∷◌, length, IfOk, vec_capacity};
+ghost use Rattle.std.specs.Prelude.{◌≡◌, ◌≤◌, ◌<◌, ◌*◌, ◌+◌, ◌++◌, true, Some, [], ◌∷◌, length};
+ghost use Rattle.std.specs.Prelude.{take, is_some, IfOk, IfSome};
 ghost use Rattle.kernel_model.specs.Kernel.{gave_note};
 ghost use Rattle.kernel_model.specs.Bare.{given_count, note_with, notes_with};
 ghost use Rattle.kernel_steps.specs.Noting.{AreGiven, NotesFit};
 ghost use Rattle.kernel_steps.specs.Refines.{Adds};
 
 use call_pieces::Gift;
+use fixed_room::Room;
 use kernel_model::{BLOCK_BYTES, BareNote, NoMemory};
 use std::alloc::Global;
 use std::marker::Model;
@@ -18,19 +20,20 @@ const NOTES: usize = 530;
 const NOTE_BYTES: usize = NOTES * BLOCK_BYTES;
 
 /// The notes of an event, in order: small rows, and the bytes that were given, one behind the
-/// other. Contracts see the list of the notes with their bytes. Memory is taken once.
+/// other. Contracts see the list of the notes with their bytes. Memory is taken once, and stays
+/// what it was.
 ///
 /// Only the first bytes, so many as the size, are those of the notes: bytes of an event before stay
 /// behind them until others are given, so that to forget them is one store.
 #[derive(Drop)]
 pub struct Notes {
-    list: Vec<BareNote>,
-    bytes: Vec<u8>,
+    list: Room<BareNote>,
+    bytes: Room<u8>,
     size: usize,
 }
 
 impl Model for Notes {
-    ghost use Rattle.std.specs.Prelude.{List, take, length, ◌≤◌, vec_capacity};
+    ghost use Rattle.std.specs.Prelude.{List, take, length, ◌≤◌};
     ghost use Rattle.kernel_model.specs.declared.Note.{Note};
     ghost use Rattle.kernel_model.specs.Bare.{notes_with};
     ghost use Rattle.kernel_steps.specs.Noting.{NotesFit};
@@ -40,7 +43,7 @@ impl Model for Notes {
     ghost view = { λ n. notes_with n.list.items (take n.size n.bytes.items) };
 
     ghost invariant = { λ n.
-        NotesFit n.list.items (take n.size n.bytes.items) (vec_capacity n.list) (vec_capacity n.bytes)
+        NotesFit n.list.items (take n.size n.bytes.items) n.list.room n.bytes.room
         × n.size ≤ length n.bytes.items };
 }
 
@@ -55,15 +58,30 @@ fn without_bytes(note: BareNote) -> BareNote
     }
 }
 
+/// Puts the bytes that a piece gave behind the first so many.
+fn put_behind(bytes: &mut Room<u8>, size: usize, gave: &Gift)
+    requires given { is_some gave.now ≡ true }
+    requires within { size ≤ length bytes.old.items }
+    requires fits { size + 512 ≤ 271360 }
+    requires room { bytes.old.room ≡ 271360 }
+    ensures bytes { IfSome gave.now (λ b. take (size + length b) bytes.new.items
+        ≡ take size bytes.old.items ++ b) }
+    ensures size { size + 512 ≤ length bytes.new.items }
+    ensures room { bytes.new.room ≡ bytes.old.room }
+{
+    bytes.reach(size + BLOCK_BYTES, 0);
+    gave.copy_to(bytes, size);
+}
+
 impl Notes {
     /// No notes, with room for those of one event.
     pub fn new(alloc: Global) -> Result<Notes, NoMemory>
         ensures { IfOk result (λ n. n ≡ []) }
     {
-        let Ok(list) = Vec::with_capacity(alloc, NOTES) else {
+        let Ok(list) = Room::with_capacity(alloc, NOTES) else {
             return Err(NoMemory);
         };
-        match Vec::with_capacity(alloc, NOTE_BYTES) {
+        match Room::with_capacity(alloc, NOTE_BYTES) {
             Ok(bytes) => Ok(Notes {
                 list,
                 bytes,
@@ -97,7 +115,7 @@ impl Notes {
         ensures { Adds (note_with note [] ∷ []) self.old self.new }
     {
         if self.list.len() < NOTES {
-            let _ = self.list.push(without_bytes(note));
+            self.list.push(without_bytes(note));
         }
     }
 
@@ -111,10 +129,10 @@ impl Notes {
             return;
         };
         if self.list.len() < NOTES {
-            let _ = self.list.push(BareNote::Gave(number, bytes.len() as u16));
-            self.bytes.truncate(self.size);
-            gave.append_to(&mut self.bytes);
-            self.size = self.bytes.len();
+            let count = bytes.len();
+            self.list.push(BareNote::Gave(number, count as u16));
+            put_behind(&mut self.bytes, self.size, gave);
+            self.size += count;
         }
     }
 }

@@ -11,6 +11,7 @@ use crate::rows::{
 };
 use crate::{Holds, Takers};
 use arrayvec::ArrayVec;
+use fixed_room::Room;
 use kernel_model::Mode;
 use std::alloc::{AllocError, Global};
 use std::marker::Model;
@@ -21,7 +22,7 @@ use std::marker::Model;
 /// so that all of these are found without a look at the others.
 #[derive(Drop)]
 pub(crate) struct CallHolds {
-    masks: Vec<Holds>,
+    masks: Room<Holds>,
     numbers: ArrayVec<u16, OBJECTS>,
 }
 
@@ -34,7 +35,8 @@ impl Model for CallHolds {
 
     ghost view = { λ c. c.masks.items };
 
-    ghost invariant = { λ c. (length c.masks.items ≡ 421) × IsNoted c.masks.items c.numbers.items };
+    ghost invariant = { λ c. (length c.masks.items ≡ 421) × IsNoted c.masks.items c.numbers.items
+        × (c.masks.room ≡ 421) };
 }
 
 impl CallHolds {

@@ -12,6 +12,7 @@ use crate::levels::{NO_HOLDS, any_holds, conflicting, merged_out, released_from,
 use crate::taking::holding_so;
 use crate::{Holds, Takers};
 use arrayvec::ArrayVec;
+use fixed_room::Room;
 use kernel_model::Mode;
 use std::alloc::{AllocError, Global};
 
@@ -19,11 +20,12 @@ use std::alloc::{AllocError, Global};
 pub(crate) const OBJECTS: usize = 421;
 
 /// So many objects of which nothing is held.
-pub(crate) fn nothing_held(alloc: Global, count: usize) -> Result<Vec<Holds>, AllocError>
+pub(crate) fn nothing_held(alloc: Global, count: usize) -> Result<Room<Holds>, AllocError>
     ensures free { IfOk result (λ v. (n : ℕ) → holds_at v.items n ≡ no_holds) }
     ensures size { IfOk result (λ v. length v.items ≡ count) }
+    ensures room { IfOk result (λ v. v.room ≡ count) }
 {
-    vec![in alloc; NO_HOLDS; count]
+    Room::filled(alloc, NO_HOLDS, count)
 }
 
 /// The levels that hold an object.

@@ -19,6 +19,7 @@ use crate::process_masks::{is_empty, marked, others, with};
 use crate::rows::OBJECTS;
 use crate::taking::{lowest_other, nobody, take_at};
 use crate::{Holds, Takers};
+use fixed_room::Room;
 use kernel_model::{Mode, NoMemory, Object, PROCESSES};
 use std::alloc::{AllocError, Global};
 use std::marker::Model;
@@ -29,9 +30,9 @@ use std::marker::Model;
 /// shared or exclusive.
 #[derive(Drop)]
 pub struct LockTable {
-    calls: Vec<CallHolds>,
+    calls: Room<CallHolds>,
     /// What the masks of the calls say, object by object.
-    takers: Vec<Takers>,
+    takers: Room<Takers>,
     /// The processes whose calls hold something, as a mask.
     holding: u16,
 }
@@ -46,17 +47,20 @@ impl Model for LockTable {
     ghost view = { λ t. t.calls.items };
 
     ghost invariant = { λ t. (length t.calls.items ≡ 16) × AreHolding t.holding t.calls.items
-        × (length t.takers.items ≡ 421) × AreTakers t.takers.items t.calls.items };
+        × (length t.takers.items ≡ 421) × AreTakers t.takers.items t.calls.items
+        × (t.calls.room ≡ 16) × (t.takers.room ≡ 421) };
 }
 
 /// So many calls that hold nothing.
-fn no_calls(alloc: Global, count: usize) -> Result<Vec<CallHolds>, AllocError>
+fn no_calls(alloc: Global, count: usize) -> Result<Room<CallHolds>, AllocError>
     ensures size { IfOk result (λ v. length v.items ≡ count) }
+    ensures room { IfOk result (λ v. v.room ≡ count) }
     ensures free { IfOk result (λ v. (p n e : ℕ) → levels_at (masks_of v.items p) n e ≡ Free) }
 {
-    let mut calls = Vec::with_capacity(alloc, count)?;
+    let mut calls = Room::with_capacity(alloc, count)?;
     while calls.len() < count {
-        calls.push(CallHolds::new(alloc)?)?;
+        let call = CallHolds::new(alloc)?;
+        calls.push(call);
     }
     Ok(calls)
 }
@@ -64,7 +68,7 @@ fn no_calls(alloc: Global, count: usize) -> Result<Vec<CallHolds>, AllocError>
 impl LockTable {
     ghost use Rattle.lock_table.specs.Masks.{held};
 
-    /// Nothing is held. No other call takes memory.
+    /// Nothing is held. Takes all the memory that the table ever does.
     pub fn new(alloc: Global) -> Result<LockTable, NoMemory>
         ensures { IfOk result (λ t. held t ≡ no_locks) }
     {

@@ -11,6 +11,7 @@ use crate::holder::Holder;
 use crate::levels::conflicting;
 use crate::process_masks::{lowest, marked, others, with};
 use crate::{Holds, Takers};
+use fixed_room::Room;
 use kernel_model::Mode;
 use std::alloc::{AllocError, Global};
 
@@ -21,11 +22,12 @@ const NO_TAKERS: Takers = Takers {
 };
 
 /// So many objects that no process holds.
-pub(crate) fn nobody(alloc: Global, count: usize) -> Result<Vec<Takers>, AllocError>
+pub(crate) fn nobody(alloc: Global, count: usize) -> Result<Room<Takers>, AllocError>
     ensures free { IfOk result (λ v. (n : ℕ) → takers_at v.items n ≡ no_takers) }
     ensures size { IfOk result (λ v. length v.items ≡ count) }
+    ensures room { IfOk result (λ v. v.room ≡ count) }
 {
-    vec![in alloc; NO_TAKERS; count]
+    Room::filled(alloc, NO_TAKERS, count)
 }
 
 /// The processes of which some level's hold conflicts with a mode.

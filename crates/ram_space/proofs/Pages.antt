@@ -304,15 +304,15 @@ next_below places bytes i sound one none =
     let next = next_of places bytes sound in
     omega (arith, few, many, next)
 
-pub next_room : (places bytes : List ℕ) (i n capacity : ℕ) → n ≡ length bytes →
-    IsSpace places bytes capacity → slice_index places i ≡ 0 → i < 128 → n + 4096 ≤ capacity
-next_room places bytes i n capacity long space none one =
+pub next_room : (places bytes : List ℕ) (i n room : ℕ) → n ≡ length bytes →
+    IsSpace places bytes room → slice_index places i ≡ 0 → i < 128 → n + 4096 ≤ room
+next_room places bytes i n room long space none one =
     let sound = space.sound in
     let few = fewer_given places i (let many = sound.many in omega (arith, many)) none in
     let size = sound.size in
     let many = sound.many in
-    let wide = space.room in
-    omega (arith, few, many, size, wide, long)
+    let taken = space.taken in
+    omega (arith, few, many, size, taken, long)
 
 new_zeros : (bytes : List ℕ) (k : ℕ) → length bytes ≡ 4096 * k →
     page_at (bytes ++ replicate 4096 0) k ≡ replicate 4096 0
@@ -456,15 +456,15 @@ gets_same places bytes new i n more long sound none =
     ∙ ap (λ k. memory_of (slice_set places i (k / 4096)) (bytes ++ replicate 4096 0)) long
     ∙ owned_same places bytes i sound none
 
-pub gets_space : (places bytes new : List ℕ) (i n old capacity : ℕ) →
+pub gets_space : (places bytes new : List ℕ) (i n old room : ℕ) →
     new ≡ bytes ++ replicate (n + 4096 - length bytes) 0 → n ≡ length bytes →
-    IsSpace places bytes old → old ≤ capacity →
-    slice_index places i ≡ 0 → i < 128 → IsSpace (slice_set places i (n / 4096)) new capacity
-gets_space places bytes new i n old capacity more long space room none low = record {
+    IsSpace places bytes old → room ≡ old →
+    slice_index places i ≡ 0 → i < 128 → IsSpace (slice_set places i (n / 4096)) new room
+gets_space places bytes new i n old room more long space same none low = record {
   sound = subst (ArePages (slice_set places i (n / 4096))) (sym (more ∙ zeros_behind bytes n long))
       (subst (λ k. ArePages (slice_set places i (k / 4096)) (bytes ++ replicate 4096 0)) (sym long)
       (owned_sound places bytes i space.sound low none));
-  room = (let wide = space.room in omega (arith, wide, room));
+  taken = same ∙ space.taken;
 }
 
 -- a page of zeros behind no byte
@@ -472,11 +472,11 @@ pub first_page : (bytes new : List ℕ) → new ≡ bytes ++ replicate (4096 - l
     bytes ≡ [] → new ≡ replicate 4096 0
 first_page bytes new more none = more ∙ ap (λ zs. zs ++ replicate (4096 - length zs) 0) none
 
-pub blank_space : (places bytes : List ℕ) (capacity : ℕ) → places ≡ replicate 128 0 →
-    bytes ≡ replicate 4096 0 → 528384 ≤ capacity → IsSpace places bytes capacity
-blank_space places bytes capacity e f room = record {
+pub blank_space : (places bytes : List ℕ) (room : ℕ) → places ≡ replicate 128 0 →
+    bytes ≡ replicate 4096 0 → room ≡ 528384 → IsSpace places bytes room
+blank_space places bytes room e f taken = record {
   sound = subst (λ ps. ArePages ps bytes) (sym e) (subst (ArePages (replicate 128 0)) (sym f) blank_sound);
-  room = room;
+  taken = taken;
 }
 
 pub blank_byte : (places bytes : List ℕ) (a : ℕ) → places ≡ replicate 128 0 →
@@ -488,7 +488,7 @@ blank_byte places bytes a e f =
 pub blank_length : (places bytes : List ℕ) → places ≡ replicate 128 0 → bytes ≡ replicate 4096 0 →
     length (memory_of places bytes) ≡ 524288
 blank_length places bytes e f =
-    let space = blank_space places bytes 528384 e f (omega arith) in
+    let space = blank_space places bytes 528384 e f refl in
     memory_length places bytes space.sound
 
 pub clear_here : (places bytes : List ℕ) (from to : ℕ) → ArePages places bytes → IsPart from to →

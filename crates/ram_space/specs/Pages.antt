@@ -51,6 +51,6 @@ pub record ArePages (places bytes : List ℕ) : Type 0 where
       (slice_index places i ≡ 0) ⊎ (i ≡ j)
 
 -- The pages, and how many bytes there is memory for: those of all pages, and the page of zeros.
-pub record IsSpace (places bytes : List ℕ) (capacity : ℕ) : Type 0 where
+pub record IsSpace (places bytes : List ℕ) (room : ℕ) : Type 0 where
   pub sound : ArePages places bytes
-  pub room : 528384 ≤ capacity
+  pub taken : room ≡ 528384

@@ -3,13 +3,14 @@
 
 ghost use Rattle.std.specs.Prelude.{◌≡◌, ℕ, ◌+◌, ◌*◌, ◌/◌, ◌≤◌, ◌<◌, ◌%◌, ◌++◌, ◌-◌, IfOk, length};
 ghost use Rattle.std.specs.Prelude.{nat_eq, replicate, take, drop, slice_index, slice_range};
-ghost use Rattle.std.specs.Prelude.{slice_set, vec_capacity};
+ghost use Rattle.std.specs.Prelude.{slice_set};
 ghost use Rattle.std.specs.Cmp.Lexicographic.{pointwise};
 ghost use Rattle.std.specs.Int.{w32, from_le_bytes, to_le_bytes};
 ghost use Rattle.ram_space.specs.Pages.{ArePages, Becomes, IsPart, IsPiece, IsSpace, cleared, memory_of, put};
 
 mod segments;
 
+use fixed_room::Room;
 pub use segments::{MOST_SEGMENTS, SEGMENT_BYTES, Segments};
 use std::alloc::{AllocError, Global};
 use std::marker::Model;
@@ -30,24 +31,25 @@ const PAGES: usize = 128;
 /// The memory, which contracts see as the list of its bytes, each 0 to 255. Addresses count from 0.
 ///
 /// Until a page is written, a page of zeros stands for it, which all such pages share: the memory
-/// for all is taken at first, but no byte of a page is written before it is needed.
+/// for all is taken at first, and stays what it was, but no byte of a page is written before it is
+/// needed.
 #[derive(Drop)]
 pub struct Ram {
     /// The place of each page in `bytes`, counted in pages; 0 for one that wasn't written.
     places: [u8; PAGES],
     /// The page of zeros, and the pages that were written.
-    bytes: Vec<u8>,
+    bytes: Room<u8>,
 }
 
 impl Model for Ram {
-    ghost use Rattle.std.specs.Prelude.{ℕ, List, vec_capacity};
+    ghost use Rattle.std.specs.Prelude.{ℕ, List};
     ghost use Rattle.ram_space.specs.Pages.{IsSpace, memory_of};
 
     ghost Value = { List ℕ };
 
     ghost view = { λ r. memory_of r.places r.bytes.items };
 
-    ghost invariant = { λ r. IsSpace r.places r.bytes.items (vec_capacity r.bytes) };
+    ghost invariant = { λ r. IsSpace r.places r.bytes.items r.bytes.room };
 }
 
 impl Ram {
@@ -216,25 +218,13 @@ fn no_places() -> [u8; PAGES]
 
 /// A page of zeros, with room for all pages behind it.
 #[tactic(auto, using(crate::proofs::Pages::first_page))]
-fn zero_page(alloc: Global) -> Result<Vec<u8>, AllocError>
+fn zero_page(alloc: Global) -> Result<Room<u8>, AllocError>
     ensures zeros { IfOk result (λ v. v.items ≡ replicate 4096 0) }
-    ensures room { IfOk result (λ v. 528384 ≤ vec_capacity v) }
+    ensures room { IfOk result (λ v. v.room ≡ 528384) }
 {
-    let mut bytes = Vec::with_capacity(alloc, PAGE_BYTES + RAM_BYTES as usize)?;
-    reach(&mut bytes, PAGE_BYTES);
+    let mut bytes = Room::with_capacity(alloc, PAGE_BYTES + RAM_BYTES as usize)?;
+    bytes.reach(PAGE_BYTES, 0);
     Ok(bytes)
-}
-
-/// There are so many bytes at least: zeros are put behind them where there are fewer.
-fn reach(bytes: &mut Vec<u8>, end: usize)
-    requires { end ≤ vec_capacity bytes.old }
-    ensures items { bytes.new.items
-        ≡ bytes.old.items ++ replicate (end - length bytes.old.items) 0 }
-    ensures room { vec_capacity bytes.old ≤ vec_capacity bytes.new }
-{
-    if bytes.len() < end {
-        let _ = bytes.resize(end, 0);
-    }
 }
 
 /// Where the byte of an address stands.
@@ -270,27 +260,27 @@ fn piece_at<'a>(places: &[u8; PAGES], bytes: &'a [u8], a: u32, count: usize) -> 
 /// Page i, which has no place of its own, gets the next one.
 #[tactic(auto, using(crate::proofs::Pages::gives))]
 #[inline(never)]
-fn give_place(places: &mut [u8; PAGES], bytes: &mut Vec<u8>, i: usize)
+fn give_place(places: &mut [u8; PAGES], bytes: &mut Room<u8>, i: usize)
     requires page { i < PAGES }
     requires none { slice_index places.old i ≡ 0 }
-    requires space { IsSpace places.old bytes.old.items (vec_capacity bytes.old) }
+    requires space { IsSpace places.old bytes.old.items bytes.old.room }
     ensures same { memory_of places.new bytes.new.items ≡ memory_of places.old bytes.old.items }
     ensures own { 0 < slice_index places.new i }
-    ensures space { IsSpace places.new bytes.new.items (vec_capacity bytes.new) }
+    ensures space { IsSpace places.new bytes.new.items bytes.new.room }
 {
     let end = bytes.len();
     places[i] = (end / PAGE_BYTES) as u8;
-    reach(bytes, end + PAGE_BYTES);
+    bytes.reach(end + PAGE_BYTES, 0);
 }
 
 /// Page i gets a place of its own where it has none.
 #[inline(always)]
-fn own_page(places: &mut [u8; PAGES], bytes: &mut Vec<u8>, i: usize)
+fn own_page(places: &mut [u8; PAGES], bytes: &mut Room<u8>, i: usize)
     requires page { i < PAGES }
-    requires space { IsSpace places.old bytes.old.items (vec_capacity bytes.old) }
+    requires space { IsSpace places.old bytes.old.items bytes.old.room }
     ensures same { memory_of places.new bytes.new.items ≡ memory_of places.old bytes.old.items }
     ensures own { 0 < slice_index places.new i }
-    ensures space { IsSpace places.new bytes.new.items (vec_capacity bytes.new) }
+    ensures space { IsSpace places.new bytes.new.items bytes.new.room }
 {
     if places[i] == 0 {
         give_place(places, bytes, i);

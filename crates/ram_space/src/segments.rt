@@ -3,12 +3,13 @@
 
 ghost use Rattle.std.specs.Prelude.{◌≡◌, ℕ, ◌<◌, ◌≤◌, ◌*◌, ◌+◌, ◌++◌, true, false, List, None};
 ghost use Rattle.std.specs.Prelude.{Some, take, drop, length, replicate, slice_set, slice_index_or};
-ghost use Rattle.std.specs.Prelude.{slice_range, vec_capacity, ◌-◌, IfOk, IfSome};
+ghost use Rattle.std.specs.Prelude.{slice_range, ◌-◌, IfOk, IfSome};
 ghost use Rattle.std.specs.Option.{option_copied};
 ghost use Rattle.ram_space.specs.Tables.{AreSegments, segments_of};
 
+use fixed_room::Room;
 use kernel_data::NoMemory;
-use std::alloc::{AllocError, Global};
+use std::alloc::Global;
 use std::marker::Model;
 
 /// The bytes of a segment.
@@ -18,16 +19,16 @@ pub const SEGMENT_BYTES: usize = 4096;
 pub const MOST_SEGMENTS: usize = 256;
 
 /// Segments by number, from 0. Contracts see a list of them: the bytes of each that is there, and
-/// None of the others. The memory for all is taken at first, but no byte of it is written before it
-/// is needed.
+/// None of the others. The memory for all is taken at first, and stays what it was, but no byte of
+/// it is written before it is needed.
 #[derive(Drop)]
 pub struct Segments {
-    there: Vec<bool>,
-    bytes: Vec<u8>,
+    there: Room<bool>,
+    bytes: Room<u8>,
 }
 
 impl Model for Segments {
-    ghost use Rattle.std.specs.Prelude.{ℕ, ◌*◌, ◌≤◌, List, Option, length, vec_capacity};
+    ghost use Rattle.std.specs.Prelude.{◌≡◌, ℕ, ◌*◌, List, Option, length};
     ghost use Rattle.ram_space.specs.Tables.{AreSegments, segments_of};
 
     ghost Value = { List (Option (List ℕ)) };
@@ -35,14 +36,7 @@ impl Model for Segments {
     ghost view = { λ s. segments_of s.there.items s.bytes.items };
 
     ghost invariant = { λ s. AreSegments s.there.items s.bytes.items
-        × (4096 * length s.there.items ≤ vec_capacity s.bytes) };
-}
-
-/// So many flags that aren't set.
-fn no_flags(alloc: Global, count: usize) -> Result<Vec<bool>, AllocError>
-    ensures { IfOk result (λ v. v.items ≡ replicate count false) }
-{
-    vec![in alloc; false; count]
+        × (s.there.room ≡ length s.there.items) × (s.bytes.room ≡ 4096 * length s.there.items) };
 }
 
 /// Segment i of these flags and bytes, if it is there.
@@ -72,43 +66,31 @@ fn put_bytes(bytes: &mut [u8], i: usize, from: &[u8])
     bytes[SEGMENT_BYTES * i..SEGMENT_BYTES * i + SEGMENT_BYTES].copy_from_slice(from);
 }
 
-/// There are so many bytes at least: zeros are put behind them where there are fewer.
-fn reach(bytes: &mut Vec<u8>, end: usize)
-    requires { end ≤ vec_capacity bytes.old }
-    ensures items { bytes.new.items
-        ≡ bytes.old.items ++ replicate (end - length bytes.old.items) 0 }
-    ensures room { vec_capacity bytes.old ≤ vec_capacity bytes.new }
-{
-    if bytes.len() < end {
-        let _ = bytes.resize(end, 0);
-    }
-}
-
 /// Bytes are in the place of segment i, where there is room for them.
-fn put_at(bytes: &mut Vec<u8>, i: usize, from: &[u8])
+fn put_at(bytes: &mut Room<u8>, i: usize, from: &[u8])
     requires number { i < 256 }
-    requires room { 4096 * i + 4096 ≤ vec_capacity bytes.old }
+    requires room { 4096 * i + 4096 ≤ bytes.old.room }
     requires whole { length from.now ≡ 4096 }
     ensures value { let ys = bytes.old.items
         ++ replicate (4096 * i + 4096 - length bytes.old.items) 0 in
         bytes.new.items ≡ take (4096 * i) ys ++ from.now ++ drop (4096 * i + 4096) ys }
-    ensures room { vec_capacity bytes.old ≤ vec_capacity bytes.new }
+    ensures room { bytes.new.room ≡ bytes.old.room }
 {
-    reach(bytes, SEGMENT_BYTES * i + SEGMENT_BYTES);
+    bytes.reach(SEGMENT_BYTES * i + SEGMENT_BYTES, 0);
     put_bytes(bytes, i, from);
 }
 
 /// Segment i becomes these bytes.
 #[tactic(auto, using(crate::proofs::Padded::segment_put, crate::proofs::Padded::put_sound))]
-fn put_in(there: &mut [bool], bytes: &mut Vec<u8>, i: usize, from: &[u8])
+fn put_in(there: &mut [bool], bytes: &mut Room<u8>, i: usize, from: &[u8])
     requires number { i < length there.old }
     requires sound { AreSegments there.old bytes.old.items }
-    requires room { 4096 * length there.old ≤ vec_capacity bytes.old }
+    requires room { bytes.old.room ≡ 4096 * length there.old }
     requires whole { length from.now ≡ 4096 }
     ensures value { segments_of there.new bytes.new.items
         ≡ slice_set (segments_of there.old bytes.old.items) i (Some from.now) }
     ensures sound { AreSegments there.new bytes.new.items }
-    ensures room { 4096 * length there.new ≤ vec_capacity bytes.new }
+    ensures room { bytes.new.room ≡ bytes.old.room }
     ensures size { length there.new ≡ length there.old }
 {
     put_at(bytes, i, from);
@@ -146,10 +128,10 @@ impl Segments {
         requires { count ≤ MOST_SEGMENTS }
         ensures { IfOk result (λ s. s ≡ replicate count None) }
     {
-        let Ok(there) = no_flags(alloc, count) else {
+        let Ok(there) = Room::filled(alloc, false, count) else {
             return Err(NoMemory);
         };
-        match Vec::with_capacity(alloc, SEGMENT_BYTES * count) {
+        match Room::with_capacity(alloc, SEGMENT_BYTES * count) {
             Ok(bytes) => Ok(Segments { there, bytes }),
             Err(_) => Err(NoMemory),
         }

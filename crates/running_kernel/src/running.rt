@@ -9,6 +9,7 @@ ghost use Rattle.running_kernel.specs.Views.{flight_of, no_flight, IsRunning, Is
 use crate::order::Order;
 use crate::slots::Slot;
 use call_pieces::{Calls, Policy, Store, Work};
+use fixed_room::Room;
 use graft_levels::{Chain, Images, Levels, UndoStack};
 use kernel_data::{NoMemory, PROCESSES};
 use lock_table::LockTable;
@@ -46,7 +47,7 @@ pub struct Running<C: Calls, B: Policy> {
     /// What each level of each call holds of the objects.
     pub locks: LockTable,
     /// What each process has in flight, by its number.
-    pub calls: Vec<Flight>,
+    pub calls: Room<Flight>,
     /// The order of waiting.
     pub order: Order,
     pub(crate) table: PhantomData<C>,
@@ -67,17 +68,15 @@ fn no_flight(alloc: Global) -> Result<Flight, NoMemory>
 }
 
 /// So many processes without a call.
-fn no_flights(alloc: Global, count: usize) -> Result<Vec<Flight>, NoMemory>
+fn no_flights(alloc: Global, count: usize) -> Result<Room<Flight>, NoMemory>
     ensures { IfOk result (λ v. v.items ≡ replicate count no_flight) }
 {
-    let Ok(mut flights) = Vec::with_capacity(alloc, count) else {
+    let Ok(mut flights) = Room::with_capacity(alloc, count) else {
         return Err(NoMemory);
     };
     for _ in 0..count {
         let flight = no_flight(alloc)?;
-        if flights.push(flight).is_err() {
-            return Err(NoMemory);
-        }
+        flights.push(flight);
     }
     Ok(flights)
 }

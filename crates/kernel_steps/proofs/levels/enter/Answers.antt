@@ -1,6 +1,6 @@
 use Rattle.std.proofs.Common.{◌≡◌, ◌∙◌, ap, sym, refl}
 use Rattle.std.specs.Prelude.{option_map, slice_set}
-use Rattle.std.specs.Vec.{with_item}
+use Rattle.fixed_room.specs.Held.{with_item}
 use Rattle.kernel_model.specs.History.{begin_at}
 use Rattle.graft_levels.specs.declared.Chain.{Chain}
 use Rattle.graft_levels.specs.Chains.{call_of}

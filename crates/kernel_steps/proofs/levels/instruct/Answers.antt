@@ -1,5 +1,5 @@
 use Rattle.std.proofs.Common.{◌≡◌, refl}
-use Rattle.std.specs.Vec.{with_item}
+use Rattle.fixed_room.specs.Held.{with_item}
 use Rattle.kernel_model.specs.GraftStep.{micro}
 use Rattle.kernel_model.specs.Levels.{Config, Outcome}
 use Rattle.call_pieces.specs.Stores.{world_of_store}

@@ -1,6 +1,6 @@
 use Rattle.std.proofs.Common.{◌≡◌, ◌∙◌, ap, sym, subst, length, refl, Some, None}
 use Rattle.std.specs.Prelude.{option_map}
-use Rattle.std.specs.Vec.{with_item}
+use Rattle.fixed_room.specs.Held.{with_item}
 use Rattle.kernel_model.specs.Laws.{IsReady}
 use Rattle.call_pieces.specs.Stores.{world_of_store, objects_of}
 use Rattle.graft_levels.specs.Slots.{table_of}

@@ -1,5 +1,5 @@
 use Rattle.std.proofs.Common.{◌≡◌, ◌<◌, length, refl, sym, subst}
-use Rattle.std.specs.Vec.{with_item}
+use Rattle.fixed_room.specs.Held.{with_item}
 use Rattle.running_kernel.specs.declared.running.Flight.{Flight}
 use Rattle.running_kernel.specs.declared.running.Running.{Running}
 use Rattle.running_kernel.specs.Views.{placed_of, flight_of}

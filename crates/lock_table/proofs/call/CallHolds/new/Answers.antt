@@ -11,6 +11,7 @@ invariant_of-result c = (
   c.in_ok-masks.ensures.size,
   rw c.new.ensures
       (noted_none c.in_ok-masks.masks.items c.in_ok-masks.ensures.free),
+  c.in_ok-masks.ensures.room,
 )
 
 pub returns : goal.returns

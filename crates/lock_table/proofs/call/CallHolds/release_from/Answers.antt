@@ -7,7 +7,7 @@ use Rattle.lock_table.proofs.call.CallHolds.release_from.Goals as goal
 
 pub invariant_of-self : goal.invariant_of-self
 invariant_of-self c =
-    whole c.release_all.new.masks c.self.inside.masks.items c.forget_unused.new.numbers.items _
+    let noted = whole c.release_all.new.masks c.self.inside.masks.items c.forget_unused.new.numbers.items _
     (c.release_all.auto.masks ∙ c.deref_mut.ensures.len)
     (c.release_all.auto.masks ∙ ap length c.deref_mut.ensures.value ∙ c.self.invariant.0)
     (noted_release c.self.inside.masks.items c.release_all.new.masks c.self.inside.numbers.items
@@ -17,4 +17,5 @@ invariant_of-self c =
     (c.forget_unused.ensures ∙ ap (λ (xs : List Holds). filter (λ n. is_used (holds_at xs n))
     c.self.inside.numbers.items)
     (c.deref-2.ensures.value ∙ written c.release_all.new.masks c.self.inside.masks.items _
-    (c.release_all.auto.masks ∙ c.deref_mut.ensures.len))))
+    (c.release_all.auto.masks ∙ c.deref_mut.ensures.len)))) in
+    (noted.0, noted.1, c.self.invariant.2)

@@ -35,4 +35,6 @@ invariant_of-self c =
       merged_takers c.self.inside.takers.items c.self.inside.calls.items c.merge_level.new.self
           c.args.by.process c.args.by.level inside c.requires c.args.by.is_level
           c.self.invariant.3 levels,
+      c.self.invariant.4,
+      c.self.invariant.5,
     )

@@ -8,4 +8,6 @@ invariant_of-result c = (
   none_holding c.in-Ok.calls.items c.in-Ok.ensures.free,
   c.in-Ok-nobody.ensures.size,
   none_taken c.in-Ok-nobody.takers.items c.in-Ok.calls.items c.in-Ok-nobody.ensures.free c.in-Ok.ensures.free,
+  c.in-Ok.ensures.room,
+  c.in-Ok-nobody.ensures.room,
 )

@@ -47,4 +47,6 @@ invariant_of-self c =
           c.is_free-holds_some.ensures.free c.is_free-holds_some.ensures.held c.self.invariant.1,
       takers.0,
       takers.1,
+      c.self.invariant.4,
+      c.self.invariant.5,
     )

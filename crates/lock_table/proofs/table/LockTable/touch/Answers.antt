@@ -57,4 +57,6 @@ invariant_of-self c =
           c.with-self-inside.ensures c.self.invariant.1 touched,
       takers.0,
       takers.1,
+      c.self.invariant.4,
+      c.self.invariant.5,
     )
