@@ -1,3 +1,4 @@
 pub mod Accepted
 pub mod Faults
+pub mod Fused
 pub mod Places

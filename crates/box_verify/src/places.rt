@@ -37,7 +37,7 @@ fn is_triple_of(x: &Instr, y: &Instr, z: &Instr) -> bool
 }
 
 /// Whether a triple begins at a place.
-fn is_triple(code: &[Instr], pc: usize) -> bool
+pub fn is_triple(code: &[Instr], pc: usize) -> bool
     requires { pc < 2 ^ 32 }
     ensures { result ≡ spec.is_triple code.now pc }
 {

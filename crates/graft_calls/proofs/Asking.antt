@@ -1,6 +1,6 @@
 -- An ask that is refused, or answered.
 use Rattle.std.specs.Option.{is_some}
-use Rattle.std.proofs.Common.{◌≡◌, ℕ, suc, ◌<◌, ◌==◌, ◌&&◌, ◌||◌, Bool, true, false, cond, List}
+use Rattle.std.proofs.Common.{◌≡◌, ℕ, suc, ◌==◌, ◌&&◌, ◌||◌, Bool, true, false, cond, List}
 use Rattle.std.proofs.Common.{[], ◌∷◌, Option, Some, None, length, arith, refl, sym, ◌∙◌, ap}
 use Rattle.std.proofs.Common.{option_map}
 use Rattle.kernel_state.specs.declared.GraftRow.{GraftRow}
@@ -11,12 +11,12 @@ use Rattle.kernel_model.specs.declared.Mode.{Mode}
 use Rattle.kernel_model.specs.declared.Object.{Object}
 use Rattle.kernel_model.specs.declared.Cause.{Cause}
 use Rattle.kernel_model.specs.declared.Cause.TheVariants.{BadArgument, Reentered, TooDeep}
-use Rattle.kernel_model.specs.Access.{early_refusal, asked_objects, asked_graft}
+use Rattle.kernel_model.specs.Access.{asked_objects, asked_graft}
 use Rattle.kernel_model.specs.Objects.{Objects, Things, GraftValue}
 use Rattle.kernel_model.specs.World.{World, ImageTable}
 use Rattle.kernel_model.specs.Policies.{kind_of, args_by}
 use Rattle.kernel_model.specs.Locks.{LockTable, touch_all, with_touch, touch, untouched}
-use Rattle.kernel_model.specs.Levels.{Level, with_touched, touch_outermost, goes_on, new_level, drop_innermost}
+use Rattle.kernel_model.specs.Levels.{Level, with_touched, touch_outermost, goes_on, new_level}
 use Rattle.kernel_model.specs.GraftStep.{ask_refusal, is_vain_ask, is_running, after_ask, ask_answered}
 use Rattle.graft_levels.specs.UndoLevels.{Logged, innermost}
 use Rattle.graft_levels.specs.declared.GraftLevel.{GraftLevel}

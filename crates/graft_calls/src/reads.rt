@@ -1,7 +1,7 @@
 //! Calls that only read: of an accessor that changes nothing, and needs an object shared that the
 //! level holds already.
 
-ghost use Rattle.std.specs.Prelude.{◌≡◌, ◌≤◌, true, cond, List, Some, IfSome};
+ghost use Rattle.std.specs.Prelude.{◌≡◌, ◌<◌, ◌≤◌, true, List, length, Some, IfSome};
 ghost use Rattle.kernel_model.specs.declared.Instr.{Instr};
 ghost use Rattle.kernel_model.specs.Access.{Access};
 ghost use Rattle.kernel_model.specs.Levels.{answered};
@@ -11,14 +11,16 @@ ghost use Rattle.graft_levels.specs.Cpu.{by_place, machine_of};
 ghost use Rattle.graft_accessors.specs.Accesses.{answer_of};
 ghost use Rattle.kernel_state.specs.Stores.{queue_of};
 ghost use Rattle.placed_laws.specs.Stretch.{given as given_by, after_read};
+ghost use Rattle.graft_machine.specs.Stretch.{IsCode};
 ghost use Rattle.graft_calls.specs.Stretch.{setting_of, GoesQuietly, IsSeated, HasArguments};
 
 use crate::seat::Seat;
 use accessor_list::{early, ids};
-use box_verify::Verified;
+use box_verify::Instr;
 use graft_accessors::{AccessResult, answer};
 use graft_levels::answers::arguments;
 use graft_levels::{LockTable, Machine};
+use graft_machine::Gone;
 use kernel_model::{Cause, LAST_CALLABLE, Mode, Object};
 use kernel_state::{Policy, Store};
 
@@ -200,27 +202,35 @@ fn read<B: Policy>(
     }
 }
 
-/// The next instruction of a machine, if it is a call that only reads. Whether it is.
+/// The instruction of a machine at a place, if it is a call that only reads: one, or none.
 #[inline(always)]
 pub(crate) fn read_on<B: Policy>(
     cpu: &mut Machine,
+    pc: usize,
     seat: Seat,
     store: &Store<B>,
     locks: &LockTable,
-    code: &Verified,
-) -> bool
-    requires { IsSeated store.now code.now seat cpu.old }
-    ensures { let s = setting_of store.now locks.now code.now seat in
-        GoesQuietly s (cond result 1 0)
-        (machine_of cpu.old store.now.ram) (machine_of cpu.new store.now.ram) }
+    code: &[Instr],
+) -> Gone
+    requires seated { IsSeated store.now code.now seat (record cpu.old { pc = pc }) }
+    requires place { pc < length code.now }
+    requires code { IsCode code.now }
+    ensures most { result.count ≤ 1 }
+    ensures place { result.to ≤ 1024 }
+    ensures quiet { let s = setting_of store.now locks.now code.now seat in
+        GoesQuietly s result.count (machine_of (record cpu.old { pc = pc }) store.now.ram)
+        (machine_of (record cpu.new { pc = result.to }) store.now.ram) }
 {
-    let Some(id) = cpu.next_call(code) else {
-        return false;
+    let Some(id) = cpu.call_at(pc, code) else {
+        return Gone { to: pc, count: 0 };
     };
     let Some(result) = read(id, cpu, seat, store, locks) else {
-        return false;
+        return Gone { to: pc, count: 0 };
     };
-    cpu.pass(code);
+    cpu.go_to(pc + 1);
     cpu.set_reg(0, result);
-    true
+    Gone {
+        to: pc + 1,
+        count: 1,
+    }
 }
