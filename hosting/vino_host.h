@@ -9,16 +9,17 @@
  * Link libvino_host_c.a and the kit's liblibc_c.a; docs/HOSTING.md shows how, and says which clause
  * carries which promise.
  *
- * Memory. All of it is the caller's: the structs below, the segment and the table. They may stand
- *   anywhere and be copied as bytes; no field is a pointer. Only vino_load takes memory (malloc), and it
- *   gives back what it took. No function keeps a pointer from one call to the next.
+ * Memory. All of it is the caller's: the plug-ins' bytes, the structs below, the segment and the table.
+ *   They may be copied as bytes; no field is a pointer. Only vino_load takes memory (malloc), and it gives
+ *   back what it took. No function keeps a pointer from one call to the next.
  * Pointers. No pointer may be null, also where a length is 0, and none may overlap another that is
  *   written. Lengths count elements. These are the only rules that are not tested.
- * Structs. The contents of a struct are never trusted: whatever bytes stand there, a call ends, stays in
- *   its segment, table and structs, and answers a code. But a plug-in or a call that was changed from
- *   outside is another plug-in or another call.
+ * Contents. What stands in a plug-in's bytes or in a struct is never trusted: whatever it is, a call ends,
+ *   stays in its segment, table and structs, and answers a code. But a plug-in or a call that was changed
+ *   from outside is another plug-in or another call. So write to neither; vino_check tells whether a
+ *   plug-in's bytes are still what vino_load wrote.
  * Threads. The library has no state. Any number of threads may call it at once, each with structs, a
- *   segment and a table of its own. A loaded vino_plugin is only read by calls, and may be shared.
+ *   segment and a table of its own. A loaded plug-in is only read by calls, and may be shared.
  * Time. Each function returns. A limit counts instructions of the plug-in, not nanoseconds.
  */
 #ifndef VINO_HOST_H
@@ -56,28 +57,24 @@ enum {
     VINO_BAD_ANSWER = 12,   /* its point doesn't take its answer; detail: r0 */
     VINO_BUSY = 16,         /* another call changed the word that it wanted, or read the one that it wanted to change;
                              * detail: the id that it called */
-    VINO_BROKEN = 17,       /* it ran past its code: the struct isn't what vino_load wrote */
+    VINO_BROKEN = 17,       /* it ran past its code: the plug-in's bytes aren't what vino_load wrote */
     VINO_WAITING = 32,      /* it called an id of the host, 2 to 15, and waits; detail: the id; r0 to r3: its arguments */
     VINO_MISUSED = 33       /* nothing was done: see the function */
 };
 
-/* What vino_load answers besides 0 (loaded) and 1 to 13 (refused: the codes L1 to L13). */
-enum { VINO_LOADED = 0, VINO_NO_MEMORY = 14 };
+/* What vino_load answers besides 0 (loaded) and 1 to 13 (refused: the codes L1 to L13); and what
+ * vino_check answers. */
+enum { VINO_LOADED = 0, VINO_NO_MEMORY = 14, VINO_NO_ROOM = 15, VINO_CHANGED = 16 };
 
-/* An instruction: its eight bytes, as docs/FORMATS.md has them. */
-typedef struct {
-    uint8_t op, a, b, c;
-    uint32_t imm;
-} vino_instruction;
+/* A loaded plug-in is so many bytes of the caller's, at any place: a mark of 32 bytes, which is the SHA-256
+ * of what follows; three words, the lowest byte first: how many instructions, how many data bytes, and 1
+ * where its image asks the host to keep its segment from one completed call to the next (else 0); eight
+ * bytes for each instruction, as docs/FORMATS.md has them; the data. Begin with any bytes; vino_load writes
+ * them. As many bytes as the image has are enough. Where more are there, the others are left alone. */
+#define VINO_PLUGIN_BYTES(instructions, data) (44 + 8 * (size_t)(instructions) + (size_t)(data))
 
-/* A loaded plug-in. Begin with any bytes; vino_load writes it. */
-typedef struct {
-    uint32_t size;      /* how many instructions */
-    uint32_t body_size; /* how many data bytes */
-    uint32_t keep;      /* 1: its image asks the host to keep its segment from one completed call to the next */
-    vino_instruction code[VINO_MOST_CODE];
-    uint8_t body[VINO_MOST_BODY];
-} vino_plugin;
+/* Whether a loaded plug-in asks that its segment be kept. */
+#define VINO_KEEPS(plugin) ((plugin)[40] == 1)
 
 /* The keys of sealed images. */
 typedef struct {
@@ -113,7 +110,7 @@ typedef struct {
     uint32_t pc;
 } vino_machine;
 
-/* A call. Begin with any bytes: vino_call writes it. It is needed again only while the call waits, so
+/* A call. Begin with any bytes: vino_begin writes it. It is needed again only while the call waits, so
  * one struct serves all calls that don't wait at the same time. */
 typedef struct {
     uint32_t state; /* 1: it waits */
@@ -142,10 +139,16 @@ typedef struct {
 } vino_answer;
 
 /* Loads a sealed image of either version, its seal checked and its code verified: 0, or the number of
- * its refusal L1 to L13, or VINO_NO_MEMORY. `place` is then the number of the refused instruction (L6 to
- * L10), else 0. Where it isn't 0 `plugin` stays as it was. */
+ * its refusal L1 to L13, or VINO_NO_MEMORY, or VINO_NO_ROOM where it needs more than plugin_length bytes.
+ * `place` is then the number of the refused instruction (L6 to L10), or how many bytes the image needs
+ * (VINO_NO_ROOM), else 0. Where it isn't 0 the plug-in's bytes stay as they were. */
 uint32_t vino_load(const vino_keys *keys, const uint8_t *image, size_t image_length,
-                   vino_plugin *plugin, uint32_t *place);
+                   uint8_t *plugin, size_t plugin_length, uint32_t *place);
+
+/* Tells whether a plug-in's bytes are still what vino_load wrote: VINO_LOADED where the mark is the SHA-256
+ * of the content, else VINO_CHANGED. It finds stray writes; whoever changes the mark too isn't found. Bytes
+ * behind those that the image needs aren't looked at. No other function looks at the mark. */
+uint32_t vino_check(const uint8_t *plugin, size_t plugin_length);
 
 /* Calls a plug-in. `bytes` (at most 512) are put into the segment first, from VINO_BYTES_AT on. Returns
  * answer->kind.
@@ -154,7 +157,7 @@ uint32_t vino_load(const vino_keys *keys, const uint8_t *image, size_t image_len
  *   1 to 31: segment and table are as before, to the bit.
  *   VINO_MISUSED: request->number is 0, request->point is above 15, or there are more than 512 bytes;
  *     nothing but the answer was written. */
-uint32_t vino_begin(const vino_plugin *plugin, vino_call *call, const vino_request *request,
+uint32_t vino_begin(const uint8_t *plugin, size_t plugin_length, vino_call *call, const vino_request *request,
                     const uint8_t *bytes, size_t bytes_length, uint8_t segment[VINO_SEGMENT],
                     vino_word *table, size_t table_length, vino_answer *answer);
 
@@ -162,11 +165,12 @@ uint32_t vino_begin(const vino_plugin *plugin, vino_call *call, const vino_reque
  * VINO_BAD_ARGUMENT: it is dropped for that cause. Returns and leaves what vino_begin does.
  *   VINO_MISUSED: the call doesn't wait (it ended, or was answered before), or `how` is none of these;
  *     nothing but the answer was written. */
-uint32_t vino_resume(const vino_plugin *plugin, vino_call *call, uint32_t how, uint32_t word,
-                     uint8_t segment[VINO_SEGMENT], vino_word *table, size_t table_length,
+uint32_t vino_resume(const uint8_t *plugin, size_t plugin_length, vino_call *call, uint32_t how,
+                     uint32_t word, uint8_t segment[VINO_SEGMENT], vino_word *table, size_t table_length,
                      vino_answer *answer);
 
-/* Puts a sentence for the kind of an answer, or for what vino_load answered, into 64 bytes: at most 63 bytes of ASCII, and zeros behind. */
+/* Puts a sentence for the kind of an answer, or for what vino_load or vino_check answered, into 64 bytes: at
+ * most 63 bytes of ASCII, and zeros behind. */
 void vino_sentence(uint32_t kind, char text[64]);
 void vino_refusal_sentence(uint32_t code, char text[64]);
 

@@ -12,7 +12,7 @@
 #include <string.h>
 #include <sys/mman.h>
 
-enum { CALLS = 4, WORDS = 8, PAGE = 4096 };
+enum { CALLS = 4, WORDS = 8, PAGE = 4096, MOST = 44 + 8 * VINO_MOST_CODE + VINO_MOST_BODY };
 
 static uint64_t state;
 
@@ -40,34 +40,49 @@ static void scramble(void *at, size_t size) {
     for (size_t i = 0; i < size; i++) ((uint8_t *)at)[i] = (uint8_t)draw(256);
 }
 
-/* Instructions that mostly do something: small registers and places, calls of the table and of the host. */
-static void make_plugin(vino_plugin *p) {
-    uint32_t kind = draw(20);
+static void put_word(uint8_t *at, uint32_t word) {
+    for (int i = 0; i < 4; i++) at[i] = (uint8_t)(word >> 8 * i);
+}
+
+/* Bytes of a plug-in up to the end of this memory: their number is answered. Mostly they are instructions that do something: small
+ * registers and places, calls of the table and of the host. Some are any bytes, and some end too early. */
+static size_t make_plugin(uint8_t *end) {
+    uint32_t kind = draw(20), size = 1 + draw(24), body = draw(3) ? draw(64) : draw(8192);
+    size_t length = kind == 0 ? draw(MOST + 1) : kind == 1 ? draw(44 + 8 * size + 1) : 44 + 8 * size + (body < VINO_MOST_BODY ? body : VINO_MOST_BODY) + draw(9);
+    static uint8_t made[MOST + 16];
+    if (length > MOST) length = MOST;
+    scramble(made, length < 1024 ? length : 1024);
     if (kind == 0) {
-        scramble(p, sizeof *p);
-        return;
+        memcpy(end - length, made, length);
+        return length;
     }
-    p->size = 1 + draw(24);
-    p->body_size = draw(3) ? draw(64) : draw(8192);
-    p->keep = draw(2);
-    for (uint32_t i = 0; i < p->size; i++) {
-        vino_instruction *c = &p->code[i];
-        c->op = (uint8_t)(draw(3) ? 1 + draw(26) : draw(2) ? 23 : 1);
-        c->a = (uint8_t)draw(draw(9) ? 6 : 256);
-        c->b = (uint8_t)draw(draw(9) ? 6 : 256);
-        c->c = (uint8_t)draw(draw(9) ? 6 : 256);
-        if (c->op >= 20 && c->op <= 22)
-            c->imm = draw(p->size + 1);
-        else if (c->op == 23)
-            c->imm = draw(3) ? draw(2) : draw(18);
+    put_word(made + 32, size);
+    put_word(made + 36, body);
+    put_word(made + 40, draw(2));
+    for (uint32_t i = 0; i < size; i++) {
+        uint8_t *c = made + 44 + 8 * i;
+        c[0] = (uint8_t)(draw(3) ? 1 + draw(26) : draw(2) ? 23 : 1);
+        for (int k = 1; k < 4; k++) c[k] = (uint8_t)draw(draw(9) ? 6 : 256);
+        if (c[0] >= 20 && c[0] <= 22)
+            put_word(c + 4, draw(size + 1));
+        else if (c[0] == 23)
+            put_word(c + 4, draw(3) ? draw(2) : draw(18));
         else
-            c->imm = draw(4) ? draw(WORDS + 2) : draw(0xffffffff);
+            put_word(c + 4, draw(4) ? draw(WORDS + 2) : draw(0xffffffff));
     }
-    p->code[p->size - 1].op = 26;
+    made[44 + 8 * (size - 1)] = 26;
+    memcpy(end - length, made, length);
+    return length;
+}
+
+/* The word at a place of an image. */
+static uint32_t word_of(const uint8_t *image, size_t place) {
+    return image[place] | (uint32_t)image[place + 1] << 8 | (uint32_t)image[place + 2] << 16 | (uint32_t)image[place + 3] << 24;
 }
 
 struct live {
-    vino_plugin *plugin;
+    uint8_t *end; /* where the plug-in's bytes end */
+    size_t size;
     vino_call *call;
     uint8_t *segment;
     uint8_t first_segment[VINO_SEGMENT];
@@ -111,25 +126,27 @@ static void look(struct live *l, const vino_answer *a, const vino_word *before, 
 int main(int count, char **words) {
     if (count != 4) return 1;
     state = strtoull(words[1], NULL, 10) * 2654435761u + 88172645463325252u;
-    unsigned long wanted = strtoul(words[2], NULL, 10), made = 0, loaded = 0, refused = 0;
+    unsigned long wanted = strtoul(words[2], NULL, 10), made = 0, loaded = 0, refused = 0, without_room = 0;
     vino_answer *answer = guarded(sizeof *answer), again;
     vino_request *request = guarded(sizeof *request);
-    vino_plugin *spare = guarded(sizeof *spare);
+    uint8_t *spare = (uint8_t *)guarded(MOST) + MOST;
+    static uint8_t copy[MOST];
     static vino_call call_before, call_after;
     static uint8_t segment_before[VINO_SEGMENT], segment_after[VINO_SEGMENT];
     vino_word before[WORDS], after[WORDS];
     static uint8_t image[16384];
+    static const vino_request wrong = {.number = 0};
     size_t image_length = 0;
     unsigned byte;
     char path[512];
     table = guarded(WORDS * sizeof *table);
     for (int i = 0; i < WORDS; i++) table[i] = (vino_word){draw(0xffffffff), 0, 0};
     for (int i = 0; i < CALLS; i++) {
-        lives[i] = (struct live){.plugin = guarded(sizeof(vino_plugin)), .call = guarded(sizeof(vino_call)), .segment = guarded(VINO_SEGMENT)};
+        lives[i] = (struct live){.end = (uint8_t *)guarded(MOST) + MOST, .call = guarded(sizeof(vino_call)), .segment = guarded(VINO_SEGMENT)};
         scramble(lives[i].call, sizeof(vino_call));
         lives[i].call->state = 0;
         scramble(lives[i].segment, VINO_SEGMENT);
-        make_plugin(lives[i].plugin);
+        lives[i].size = make_plugin(lives[i].end);
     }
     snprintf(path, sizeof path, "%s/shout.hex", words[3]);
     FILE *file = fopen(path, "r");
@@ -147,22 +164,34 @@ int main(int count, char **words) {
             uint32_t place;
             memcpy(at, image, length < image_length ? length : image_length);
             for (uint32_t k = draw(3); k-- > 0 && length;) at[draw((uint32_t)length)] = (uint8_t)draw(256);
-            scramble(spare, 64);
-            vino_plugin copy = *spare;
-            uint32_t code = vino_load(&keys, at, length, spare, &place);
-            if (code > 14) fail("a code of vino_load that there isn't");
-            if (code && memcmp(&copy, spare, sizeof copy)) fail("a refused image changed the struct");
-            *(code ? &refused : &loaded) += 1;
+            size_t room = draw(4) ? length : draw((uint32_t)image_length);
+            uint8_t *plugin = spare - room;
+            scramble(plugin, room < 64 ? room : 64);
+            memcpy(copy, plugin, room);
+            uint32_t code = vino_load(&keys, at, length, plugin, room, &place);
+            if (code > 15) fail("a code of vino_load that there isn't");
+            if (code && memcmp(copy, plugin, room)) fail("a refused image changed the plug-in's bytes");
+            if (code == VINO_NO_ROOM && (place <= room || place > length)) fail("an image needs less than there is, or more than it has");
+            if (!code) {
+                size_t stray = draw((uint32_t)room);
+                if (vino_check(plugin, room)) fail("what was loaded isn't what was loaded");
+                if (vino_begin(plugin, room, l->call, &wrong, plugin, 0, l->segment, table, WORDS, answer) != VINO_MISUSED) fail("no misuse");
+                plugin[stray] ^= (uint8_t)(1 + draw(255));
+                if (stray < VINO_PLUGIN_BYTES(word_of(image, 8), word_of(image, 12)) && vino_check(plugin, room) != VINO_CHANGED)
+                    fail("a stray write isn't found");
+            }
+            *(code == VINO_NO_ROOM ? &without_room : code ? &refused : &loaded) += 1;
             continue;
         }
         if (draw(2000) == 0 && !l->waits) scramble(l->call, sizeof *l->call), l->call->state = 0;
-        if (!l->waits && draw(3) == 0) make_plugin(l->plugin);
+        if (!l->waits && draw(3) == 0) l->size = make_plugin(l->end);
+        uint8_t *plugin = l->end - l->size;
         call_before = *l->call;
         memcpy(segment_before, l->segment, sizeof segment_before);
         if (l->waits || draw(20) == 0) {
             uint32_t how = draw(6) ? 0 : draw(7), word = draw(20);
             int can = l->call->state == 1 && (how == 0 || how == 3 || how == 4);
-            vino_resume(l->plugin, l->call, how, word, l->segment, table, WORDS, answer);
+            vino_resume(plugin, l->size, l->call, how, word, l->segment, table, WORDS, answer);
             call_after = *l->call;
             memcpy(segment_after, l->segment, sizeof segment_after);
             memcpy(after, table, sizeof after);
@@ -176,7 +205,7 @@ int main(int count, char **words) {
                 *l->call = call_before;
                 memcpy(l->segment, segment_before, sizeof segment_before);
                 memcpy(table, before, sizeof before);
-                vino_resume(l->plugin, l->call, how, word, l->segment, table, WORDS, &again);
+                vino_resume(plugin, l->size, l->call, how, word, l->segment, table, WORDS, &again);
                 if (memcmp(&again, answer, sizeof again) || memcmp(table, after, sizeof after) || memcmp(l->segment, segment_after, sizeof segment_after))
                     fail("the same answer gave something else");
             }
@@ -188,7 +217,7 @@ int main(int count, char **words) {
             int can = request->number != 0 && request->point <= 15 && fed <= 512;
             memcpy(l->first_segment, l->segment, VINO_SEGMENT);
             l->limit = request->limit;
-            vino_begin(l->plugin, l->call, request, bytes, fed, l->segment, table, WORDS, answer);
+            vino_begin(plugin, l->size, l->call, request, bytes, fed, l->segment, table, WORDS, answer);
             call_after = *l->call;
             memcpy(segment_after, l->segment, sizeof segment_after);
             memcpy(after, table, sizeof after);
@@ -202,14 +231,14 @@ int main(int count, char **words) {
                 *l->call = call_before;
                 memcpy(l->segment, segment_before, sizeof segment_before);
                 memcpy(table, before, sizeof before);
-                vino_begin(l->plugin, l->call, request, bytes, fed, l->segment, table, WORDS, &again);
+                vino_begin(plugin, l->size, l->call, request, bytes, fed, l->segment, table, WORDS, &again);
                 if (memcmp(&again, answer, sizeof again) || memcmp(table, after, sizeof after) || memcmp(l->segment, segment_after, sizeof segment_after))
                     fail("the same call gave something else");
             }
         }
         made++;
     }
-    printf("random: %lu calls, each made twice; %lu images loaded, %lu refused; by kind:", made, loaded, refused);
+    printf("random: %lu calls, each made twice; %lu images loaded, %lu refused, %lu without room; by kind:", made, loaded, refused, without_room);
     for (int k = 0; k < 64; k++)
         if (kinds[k]) printf(" %d:%lu", k, kinds[k]);
     printf("\n");

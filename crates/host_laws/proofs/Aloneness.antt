@@ -7,7 +7,7 @@ use Rattle.std.proofs.lemmas.Bool.{and_parts, and_from, or_parts, or_cases, or_f
 use Rattle.std.proofs.lemmas.Bool.{cases_eq, eqb-true, ltb-true, le-leb, leb-true, leb-false}
 use Rattle.std.proofs.lemmas.Bool.{false_from_ne_true}
 use Rattle.graft_code.specs.Machine.{Done}
-use Rattle.vino_host.specs.declared.Instruction.{Instruction}
+use Rattle.graft_code.specs.declared.Instr.{Instr}
 use Rattle.vino_host.specs.declared.Record.{Record}
 use Rattle.vino_host.specs.declared.Stop.{Stop}
 use Rattle.vino_host.specs.declared.Stop.TheVariants as stop
@@ -97,7 +97,7 @@ done_grows number rest left (Done.Trapped code) s j h has = has
 done_grows number rest left Done.Outside s j h has = has
 done_grows number rest left Done.PastEnd s j h has = has
 
-pub run_grows : (number : ℕ) (code : List Instruction) (n : ℕ) (s : State) (j : ℕ) → HasRecord j s.records →
+pub run_grows : (number : ℕ) (code : List Instr) (n : ℕ) (s : State) (j : ℕ) → HasRecord j s.records →
     HasRecord j (host_run number code n s).state.records
 unfolding host_run
 run_grows number code zero s j has = has

@@ -5,7 +5,7 @@ use Rattle.std.proofs.Common.{Option, None, Some, refl, sym, ap, subst, ◌∙�
 use Rattle.std.specs.Prelude.{◌==◌, ◌||◌, nat_le, slice_get, slice_set}
 use Rattle.std.proofs.lemmas.Bool.{cases_eq, or_cases, and_parts, eqb-true, or_left, or_right, eq-eqb, leb-true}
 use Rattle.graft_code.specs.Machine.{Done}
-use Rattle.vino_host.specs.declared.Instruction.{Instruction}
+use Rattle.graft_code.specs.declared.Instr.{Instr}
 use Rattle.vino_host.specs.declared.Record.{Record}
 use Rattle.vino_host.specs.declared.Stop.TheVariants as stop
 use Rattle.vino_host.specs.declared.Word.{Word}
@@ -67,7 +67,7 @@ done_keeps P number rest left (Done.Trapped code) s keeps h has = has
 done_keeps P number rest left Done.Outside s keeps h has = has
 done_keeps P number rest left Done.PastEnd s keeps h has = has
 
-pub run_keeps : (P : List Word → List Record → Type 0) (number : ℕ) (code : List Instruction) (n : ℕ) (s : State) →
+pub run_keeps : (P : List Word → List Record → Type 0) (number : ℕ) (code : List Instr) (n : ℕ) (s : State) →
     Keeps number P → Of P s → Of P (host_run number code n s).state
 unfolding host_run
 run_keeps P number code zero s keeps has = has
@@ -315,7 +315,7 @@ gives_holds n others first some id k v t r x u q has h = by_word (slice_get t k)
     by_word (Some w) e h = by_tests (may_serve n id k r w) (is_held n id k r w) (is_full r w) w e refl h
 
 -- what a call holds it holds after a run too
-pub run_holds : (n : ℕ) (code : List Instruction) (left : ℕ) (s : State) (others : ℕ → ℕ)
+pub run_holds : (n : ℕ) (code : List Instr) (left : ℕ) (s : State) (others : ℕ → ℕ)
     (first : List Word) → (n ≡ 0 → ⊥) →
     Holds n others first s.table s.records →
     Holds n others first (host_run n code left s).state.table (host_run n code left s).state.records

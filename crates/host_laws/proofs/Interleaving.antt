@@ -4,7 +4,7 @@ use Rattle.std.proofs.Common.{Some, refl, sym, ap, subst, ◌∙◌, ◌⊎◌, 
 use Rattle.std.specs.Prelude.{◌==◌, not, slice_get}
 use Rattle.std.proofs.lemmas.Bool.{cases_Bool, or_parts}
 use Rattle.graft_code.specs.Machine.{Machine}
-use Rattle.vino_host.specs.declared.Instruction.{Instruction}
+use Rattle.graft_code.specs.declared.Instr.{Instr}
 use Rattle.vino_host.specs.declared.Record.{Record}
 use Rattle.vino_host.specs.declared.Stop.{Stop}
 use Rattle.vino_host.specs.declared.Stop.TheVariants as stop
@@ -28,7 +28,7 @@ use Rattle.host_laws.proofs.Waiting.{IsBefore, HoldsWord, Beside, total, others_
 use Rattle.host_laws.proofs.Slicing.{Good, Slice, Ran, ran, dropped_good, both_hold, absurd_bool}
 
 -- a call, made from its beginning over the table b, comes to where it goes on
-pub record Came (story : Story) (f : Frame) (code : List Instruction) (left : ℕ) (m : Machine) (table : List Word)
+pub record Came (story : Story) (f : Frame) (code : List Instr) (left : ℕ) (m : Machine) (table : List Word)
     (records : List Record) (b : List Word) : Type 0 where
   pub over : List Word
   pub on : (k : ℕ) → touches records k ≡ true → slice_get over k ≡ seen (readings k records) (slice_get table k)
@@ -61,11 +61,11 @@ not_before records made k grows h = by_touch (touches records k) refl
     by_touch true g = absurd (absurd_bool (touches made k) (grows g) h)
 
 -- what a slice comes from
-abbrev pub Comes : Story → Frame → List Instruction → ℕ → Machine → List Word → List Record → Type 0
+abbrev pub Comes : Story → Frame → List Instr → ℕ → Machine → List Word → List Record → Type 0
 Comes story f code left m table records =
     (b : List Word) → IsBefore table records b → Came story f code left m table records b
 
-again : (story : Story) (f : Frame) (code : List Instruction) (left : ℕ) (m : Machine) (table serial : List Word)
+again : (story : Story) (f : Frame) (code : List Instr) (left : ℕ) (m : Machine) (table serial : List Word)
     (others : List Waiting) (records : List Record) (b : List Word) → Slice f.number table serial others records →
     Ran f.number table serial others records (host_run f.number code left (state m table records)) →
     goes_well (host_run f.number code left (state m table records)).stop ≡ true →
@@ -134,7 +134,7 @@ waits_beside n table serial others records e r =
 abbrev Stopping : List Ending → List Word → List Waiting → Story → Frame → Ended → Stop → Type 0
 Stopping ends first others story f e j = Good (after_stop ends others story (found_by f e.left e.state j)) first
 
-waits_good : (story : Story) (f : Frame) (code : List Instruction) (left : ℕ) (m : Machine) (table : List Word)
+waits_good : (story : Story) (f : Frame) (code : List Instr) (left : ℕ) (m : Machine) (table : List Word)
     (ends : List Ending) (first : List Word) (others : List Waiting) (records : List Record) (id : ℕ) →
     AreSameCalls ends first → Slice f.number table (one_by_one ends first) others records →
     Comes story f code left m table records →
@@ -260,7 +260,7 @@ freed n table serial others records e t s r on =
         ap (λ (o : Option Word). seen 0 o) (released_off e.state.records e.state.table k g)
         ∙ r.stays k m own holds few some other
 
-completes_good : (story : Story) (f : Frame) (code : List Instruction) (left : ℕ) (m : Machine) (table : List Word)
+completes_good : (story : Story) (f : Frame) (code : List Instr) (left : ℕ) (m : Machine) (table : List Word)
     (ends : List Ending) (first : List Word) (others : List Waiting) (records : List Record) →
     AreSameCalls ends first → Slice f.number table (one_by_one ends first) others records →
     Comes story f code left m table records →
@@ -416,7 +416,7 @@ drops_good story f left m table old ends first others records made cause detail 
     by_cause true h = cc
 
 -- a slice leaves a good world
-pub slice_good : (story : Story) (f : Frame) (code : List Instruction) (left : ℕ) (m : Machine) (table : List Word)
+pub slice_good : (story : Story) (f : Frame) (code : List Instr) (left : ℕ) (m : Machine) (table : List Word)
     (ends : List Ending) (first : List Word) (others : List Waiting) (records : List Record) →
     AreSameCalls ends first → Slice f.number table (one_by_one ends first) others records →
     Comes story f code left m table records →

@@ -1,6 +1,9 @@
 pub mod Masked
 pub mod Answering
 pub mod RawRuns
+pub mod Boxing
+pub mod BoxedRuns
+pub mod BoxedCalls
 pub mod Others
 pub mod Readings
 pub mod Touching

@@ -3,11 +3,11 @@ use Rattle.std.proofs.Common.{arith, ◌≡◌, ℕ, zero, suc, Bool, true, fals
 use Rattle.std.proofs.Common.{None, Some, refl, sym, ap, ◌∙◌}
 use Rattle.std.specs.Prelude.{◌==◌, ◌&&◌, ◌||◌, not, slice_get, length, nat_le}
 use Rattle.std.proofs.lemmas.Bool.{or_parts, or_from, and_parts, eq-eqb, not_from_false}
-use Rattle.vino_host.specs.declared.Plugin.{Plugin}
 use Rattle.vino_host.specs.declared.Request.{Request}
 use Rattle.vino_host.specs.declared.Stop.TheVariants as stop
 use Rattle.vino_host.specs.declared.Word.{Word}
-use Rattle.vino_host.specs.Calls.{Pause, Found, found, first_frame, begun, code_of, call_says, resumed, is_call}
+use Rattle.vino_host.specs.Plugins.{code_of}
+use Rattle.vino_host.specs.Calls.{Pause, Found, found, first_frame, begun, call_says, resumed, is_call}
 use Rattle.vino_host.specs.Codes.{is_refusal}
 use Rattle.vino_host.specs.HostRuns.{state, host_run, with_r0}
 use Rattle.host_laws.specs.Histories.{Waiting, World, Event, Begins, Answers, number_of, is_new}
@@ -51,7 +51,7 @@ begin_slice w first request fed good asked new =
     not_zero true h g = cc
     not_zero false h g = cc
 
-begin_comes : (table : List Word) (plugin : Plugin) (request : Request) (fed segment : List ℕ) →
+begin_comes : (table : List Word) (plugin : List ℕ) (request : Request) (fed segment : List ℕ) →
     Comes (begun_story plugin request fed segment) (first_frame request fed segment) (code_of plugin) request.limit
     (begun plugin request fed segment) table []
 unfolding alone

@@ -1,5 +1,5 @@
 -- A plug-in's run and the run of its code alone, turn by turn.
-use Rattle.std.proofs.Common.{◌≡◌, ℕ, zero, suc, ◌-◌, ◌≤◌, List, [], ◌∷◌, map, Option, None, Some}
+use Rattle.std.proofs.Common.{◌≡◌, ℕ, zero, suc, ◌-◌, ◌≤◌, List, [], ◌∷◌, Option, None, Some}
 use Rattle.std.proofs.Common.{refl, sym, ap, subst, ◌∙◌, arith}
 use Rattle.std.specs.Prelude.{slice_get}
 use Rattle.graft_code.specs.declared.Instr.{Instr}
@@ -7,10 +7,9 @@ use Rattle.graft_code.specs.Machine.{Machine, Done, masked_place, step_by}
 use Rattle.graft_code.specs.Runs as runs
 use Rattle.graft_code.specs.Runs.{CodeRun, Halt, Unanswered, AtReturn, AtDivision, AtTrap, Astray}
 use Rattle.graft_code.specs.Runs.{raw_run, run_by, run_step, is_access, counted_access, answered_call, with_answer}
-use Rattle.vino_host.specs.declared.Instruction.{Instruction}
 use Rattle.vino_host.specs.declared.Stop.{Stop}
 use Rattle.vino_host.specs.declared.Stop.TheVariants as stop
-use Rattle.vino_host.specs.HostMachine.{host_step, instr_of}
+use Rattle.vino_host.specs.HostMachine.{host_step}
 use Rattle.vino_host.specs.HostRuns.{State, state, Ended, ended, Answered, Goes, Stops, answered}
 use Rattle.vino_host.specs.HostRuns.{after_answer, after_done, host_run}
 use Rattle.host_laws.specs.RawAnswers.{answer_of, answers_after, answers_of, halt_of}
@@ -33,7 +32,7 @@ left_after number rest left (Done.Trapped code) s h = omega arith
 left_after number rest left Done.Outside s h = omega arith
 left_after number rest left Done.PastEnd s h = omega arith
 
-left_most : (number : ℕ) (code : List Instruction) (n : ℕ) (s : State) → (host_run number code n s).left ≤ n
+pub left_most : (number : ℕ) (code : List Instr) (n : ℕ) (s : State) → (host_run number code n s).left ≤ n
 unfolding host_run
 left_most number code zero s = omega arith
 left_most number code (suc n) s =
@@ -70,10 +69,10 @@ last_turn code n r q e h =
     turned code n n r q all e h ∙ ap (λ (k : ℕ). raw_run code k q) none
 
 -- the rest of the run comes as far
-abbrev Rest : (number : ℕ) → List Instruction → ℕ → Type 0
+abbrev Rest : (number : ℕ) → List Instr → ℕ → Type 0
 Rest number code n =
     (q : State) (r : CodeRun) → r.machine ≡ q.machine → r.ended ≡ None → r.answers ≡ answers_of number code n q →
-    IsRawRun (host_run number code n q) (raw_run (map instr_of code) (n - (host_run number code n q).left) r)
+    IsRawRun (host_run number code n q) (raw_run code (n - (host_run number code n q).left) r)
 
 ended_raw : (words : List Instr) (n : ℕ) (s : State) (why : Stop) (halt : Halt) (r : CodeRun) → r.machine ≡ s.machine →
     r.ended ≡ None → halt_of why ≡ Some halt →
@@ -83,14 +82,14 @@ ended_raw words n s why halt r em ee eh h =
     subst (λ (q : CodeRun). IsRawRun (ended why n s) q) (sym (last_turn words n r _ ee h))
     (record { ended = sym eh; machine = λ _. em })
 
-answer_raw : (number : ℕ) (code : List Instruction) (n id : ℕ) (m : Machine) (s : State) (r : CodeRun) (a : Answered) →
+answer_raw : (number : ℕ) (code : List Instr) (n id : ℕ) (m : Machine) (s : State) (r : CodeRun) (a : Answered) →
     Rest number code n → IsAnswered id (state m s.table s.records) a → r.ended ≡ None →
-    run_step masked_place (map instr_of code) r ≡ runs.after_done (Done.Called id m) (counted (map instr_of code) r) →
+    run_step masked_place code r ≡ runs.after_done (Done.Called id m) (counted code r) →
     r.answers ≡ answer_of (answers_of number code n) a →
     IsRawRun (after_answer (host_run number code n) n a)
-    (raw_run (map instr_of code) (suc n - (after_answer (host_run number code n) n a).left) r)
+    (raw_run code (suc n - (after_answer (host_run number code n) n a).left) r)
 answer_raw number code n id m s r (Goes q) rest said ee h ea =
-    let words = map instr_of code in
+    let words = code in
     let pair : ℕ × ℕ = (q.machine.regs 0, q.machine.regs 1) in
     let next : CodeRun = answered_call id m (counted words r) (pair ∷ answers_of number code n q) in
     let to : run_step masked_place words r ≡ next =
@@ -99,21 +98,21 @@ answer_raw number code n id m s r (Goes q) rest said ee h ea =
     (sym (turned words n (host_run number code n q).left r next (left_most number code n q) ee to))
     (rest q next (said.goes q refl) ee refl)
 answer_raw number code n id m s r (Stops why q) rest said ee h ea =
-    let words = map instr_of code in
+    let words = code in
     let next : CodeRun = answered_call id m (counted words r) [] in
     let to : run_step masked_place words r ≡ next =
     h ∙ ap (λ (xs : List (ℕ × ℕ)). answered_call id m (counted words r) xs) ea in
     subst (λ (x : CodeRun). IsRawRun (ended why n q) x) (sym (last_turn words n r next ee to))
     (record { ended = sym (said.halts why q refl); machine = λ e. absurd (said.stays why q refl e) })
 
-done_raw : (number : ℕ) (code : List Instruction) (n : ℕ) (d : Done) (s : State) (r : CodeRun) →
+done_raw : (number : ℕ) (code : List Instr) (n : ℕ) (d : Done) (s : State) (r : CodeRun) →
     Rest number code n → r.machine ≡ s.machine → r.ended ≡ None →
-    run_step masked_place (map instr_of code) r ≡ runs.after_done d (counted (map instr_of code) r) →
+    run_step masked_place code r ≡ runs.after_done d (counted code r) →
     r.answers ≡ answers_after number (answers_of number code n) d s →
     IsRawRun (after_done number (host_run number code n) n d s)
-    (raw_run (map instr_of code) (suc n - (after_done number (host_run number code n) n d s).left) r)
+    (raw_run code (suc n - (after_done number (host_run number code n) n d s).left) r)
 done_raw number code n (Done.Went m) s r rest em ee h ea =
-    let words = map instr_of code in
+    let words = code in
     let q = state m s.table s.records in
     let next : CodeRun = record (counted words r) { machine = m } in
     subst (λ (x : CodeRun). IsRawRun (host_run number code n q) x)
@@ -122,22 +121,22 @@ done_raw number code n (Done.Went m) s r rest em ee h ea =
 done_raw number code n (Done.Called id m) s r rest em ee h ea =
     answer_raw number code n id m s r (answered number id (state m s.table s.records)) rest
     (is_answered number id (state m s.table s.records)) ee h ea
-done_raw number code n Done.Returned s r rest em ee h ea = ended_raw (map instr_of code) n s
+done_raw number code n Done.Returned s r rest em ee h ea = ended_raw code n s
     stop.Returns AtReturn r em ee refl h
-done_raw number code n Done.DividedByZero s r rest em ee h ea = ended_raw (map instr_of code) n s
+done_raw number code n Done.DividedByZero s r rest em ee h ea = ended_raw code n s
     (stop.Drops 1 0) AtDivision r em ee refl h
-done_raw number code n (Done.Trapped x) s r rest em ee h ea = ended_raw (map instr_of code) n s
+done_raw number code n (Done.Trapped x) s r rest em ee h ea = ended_raw code n s
     (stop.Drops 2 x) (AtTrap x) r em ee refl h
-done_raw number code n Done.Outside s r rest em ee h ea = ended_raw (map instr_of code) n s
+done_raw number code n Done.Outside s r rest em ee h ea = ended_raw code n s
     (stop.Drops 17 0) Astray r em ee refl h
-done_raw number code n Done.PastEnd s r rest em ee h ea = ended_raw (map instr_of code) n s
+done_raw number code n Done.PastEnd s r rest em ee h ea = ended_raw code n s
     (stop.Drops 17 0) Astray r em ee refl h
 
 pub runs_are_raw : RunsAreRaw
 unfolding host_run answers_of
 runs_are_raw number code zero s r em ee ea = record { ended = ee; machine = λ h. cc }
 runs_are_raw number code (suc n) s r em ee ea =
-    let words = map instr_of code in
+    let words = code in
     let step : step_by masked_place words r.machine ≡ host_step code s.machine =
     ap (λ (m : Machine). step_by masked_place words m) em ∙ sym (steps_are_raw code s.machine) in
     done_raw number code n (host_step code s.machine) s r (λ q x a b c. runs_are_raw number code n q x a b c) em ee

@@ -4,7 +4,7 @@ use Rattle.std.proofs.Common.{sym, ap, ◌∙◌, ◌⊎◌, inl, inr}
 use Rattle.std.specs.Prelude.{slice_get}
 use Rattle.std.proofs.lemmas.Bool.{cases_eq, cases_Bool}
 use Rattle.graft_code.specs.Machine.{Machine}
-use Rattle.vino_host.specs.declared.Instruction.{Instruction}
+use Rattle.graft_code.specs.declared.Instr.{Instr}
 use Rattle.vino_host.specs.declared.Record.{Record}
 use Rattle.vino_host.specs.declared.Word.{Word}
 use Rattle.vino_host.specs.HostRuns.{state, Ended, host_run}
@@ -132,7 +132,7 @@ pub record Ran (n : ℕ) (table serial : List Word) (others : List Waiting) (rec
   pub stays : (k m own : ℕ) → HoldsWord m own (slice_get table k) → own ≤ total others k → (m ≡ 0 → ⊥) → (m ≡ n → ⊥) →
       seen 0 (slice_get e.state.table k) ≡ seen 0 (slice_get table k)
 
-pub ran : (n : ℕ) (code : List Instruction) (left : ℕ) (m : Machine) (table serial : List Word)
+pub ran : (n : ℕ) (code : List Instr) (left : ℕ) (m : Machine) (table serial : List Word)
     (others : List Waiting) (records : List Record) →
     Slice n table serial others records → Ran n table serial others records
     (host_run n code left (state m table records))

@@ -3,7 +3,7 @@ use Rattle.std.proofs.Common.{◌≡◌, ℕ, zero, suc, Bool, true, false, cond
 use Rattle.std.proofs.Common.{Option, None, Some, refl, sym, ap, ◌∙◌}
 use Rattle.std.specs.Prelude.{◌==◌, nat_le, slice_get, slice_set}
 use Rattle.graft_code.specs.Machine.{Done}
-use Rattle.vino_host.specs.declared.Instruction.{Instruction}
+use Rattle.graft_code.specs.declared.Instr.{Instr}
 use Rattle.vino_host.specs.declared.Record.{Record}
 use Rattle.vino_host.specs.declared.Stop.{Stop}
 use Rattle.vino_host.specs.declared.Stop.TheVariants as stop
@@ -75,7 +75,7 @@ done_cause number rest left (Done.Trapped code) s h = refl
 done_cause number rest left Done.Outside s h = refl
 done_cause number rest left Done.PastEnd s h = refl
 
-pub run_cause : (number : ℕ) (code : List Instruction) (n : ℕ) (s : State) →
+pub run_cause : (number : ℕ) (code : List Instr) (n : ℕ) (s : State) →
     has_cause (host_run number code n s).stop ≡ true
 unfolding host_run
 run_cause number code zero s = refl

@@ -1,7 +1,7 @@
 -- Runs over two tables that agree on what the first one touches. This is what makes completed calls
 -- as if one at a time: what other calls do meanwhile is at other words, or they read too.
 use Rattle.std.specs.Prelude.{◌≡◌, ℕ, Bool, true, false, List, [], ◌∷◌, ◌⊎◌, Option, None, Some, slice_get}
-use Rattle.vino_host.specs.declared.Instruction.{Instruction}
+use Rattle.graft_code.specs.declared.Instr.{Instr}
 use Rattle.vino_host.specs.declared.Record.{Record}
 use Rattle.vino_host.specs.declared.Stop.{Stop}
 use Rattle.vino_host.specs.declared.Stop.TheVariants.{Returns, Waits, Drops}
@@ -58,7 +58,7 @@ pub record IsSameRun (touched : ℕ → Bool) (e f : Ended) (other : List Word) 
 -- these it is the same.
 abbrev pub RunsHangOnTheirWords : Type 0
 RunsHangOnTheirWords =
-    (number : ℕ) (code : List Instruction) (n : ℕ) (s : State) (other : List Word) (touched : ℕ → Bool) →
+    (number : ℕ) (code : List Instr) (n : ℕ) (s : State) (other : List Word) (touched : ℕ → Bool) →
     goes_well (host_run number code n s).stop ≡ true → OwnsTouched number touched s.table →
     RecordsTouched touched (host_run number code n s).state.records → Agree touched s.records s.table other →
     IsSameRun touched (host_run number code n s)

@@ -4,7 +4,6 @@
 use Rattle.std.specs.Prelude.{◌≡◌, ⊤, ℕ, zero, suc, ◌==◌, Bool, true, false, cond, ◌&&◌, ◌||◌, not}
 use Rattle.std.specs.Prelude.{List, [], ◌∷◌, None, Some, slice_get}
 use Rattle.vino_host.specs.declared.Answer.{Answer}
-use Rattle.vino_host.specs.declared.Plugin.{Plugin}
 use Rattle.vino_host.specs.declared.Record.{Record}
 use Rattle.vino_host.specs.declared.Request.{Request}
 use Rattle.vino_host.specs.declared.Word.{Word}
@@ -15,14 +14,14 @@ use Rattle.vino_host.specs.Calls.{Pause, Found, call_says, resumed, is_call}
 
 -- all that a host gives a call: how it begins, and the answers to what it calls, newest first
 pub record Story : Type 0 where
-  pub plugin : Plugin
+  pub plugin : List ℕ
   pub request : Request
   pub fed : List ℕ
   pub segment : List ℕ
   pub answers : List (ℕ × ℕ)
 
 -- what a call leaves after one more answer, if it waits for one
-abbrev pub after_answer : Plugin → (how x : ℕ) → Found → Found
+abbrev pub after_answer : (plugin : List ℕ) → (how x : ℕ) → Found → Found
 after_answer plugin how x f =
     elim f.pause [
       | None ↦ f
@@ -74,7 +73,7 @@ without (suc place) (c ∷ cs) = c ∷ without place cs
 
 -- what happens: a call begins, or the call at a place of those that wait is answered
 pub data Event : Type 0 where
-  Begins : Plugin → Request → (fed segment : List ℕ) → Event
+  Begins : (plugin : List ℕ) → Request → (fed segment : List ℕ) → Event
   Answers : (place how x : ℕ) → Event
 
 -- a world in which a call stopped: it waits, completed, or is dropped and leaves no trace
@@ -95,7 +94,7 @@ after_stop ended others s f =
     ]
 
 -- a call as it begins
-abbrev pub begun_story : Plugin → Request → (fed segment : List ℕ) → Story
+abbrev pub begun_story : (plugin : List ℕ) → Request → (fed segment : List ℕ) → Story
 begun_story plugin request fed segment =
     record { plugin = plugin; request = request; fed = fed; segment = segment; answers = [] }
 

@@ -2,7 +2,7 @@
 use Rattle.std.specs.Prelude.{ℕ, zero, suc, ◌==◌, cond, List, [], ◌∷◌, Option, None, Some}
 use Rattle.graft_code.specs.Machine.{Done, Went, Called, Returned, DividedByZero, Trapped, Outside, PastEnd}
 use Rattle.graft_code.specs.Runs.{Halt, Unanswered, AtReturn, AtDivision, AtTrap, Astray}
-use Rattle.vino_host.specs.declared.Instruction.{Instruction}
+use Rattle.graft_code.specs.declared.Instr.{Instr}
 use Rattle.vino_host.specs.declared.Stop.{Stop}
 use Rattle.vino_host.specs.declared.Stop.TheVariants as stop
 use Rattle.vino_host.specs.HostMachine.{host_step}
@@ -24,7 +24,7 @@ answers_after number rest Outside s = []
 answers_after number rest PastEnd s = []
 
 -- the words that the table gives a run of at most n instructions
-unfoldable pub answers_of : (number : ℕ) → List Instruction → (n : ℕ) → State → List (ℕ × ℕ)
+unfoldable pub answers_of : (number : ℕ) → List Instr → (n : ℕ) → State → List (ℕ × ℕ)
 answers_of number code zero s = []
 answers_of number code (suc n) s =
     answers_after number (answers_of number code n) (host_step code s.machine) s

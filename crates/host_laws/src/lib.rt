@@ -2,6 +2,7 @@
 #![tactic(auto)]
 
 ghost use Rattle.host_laws.specs.Alone.{RunsHangOnTheirWords};
+ghost use Rattle.host_laws.specs.Boxed.{BoxedCallsAreRaw, BoxedPluginsAreRaw};
 ghost use Rattle.host_laws.specs.Histories.{CallsAreOneAtATime};
 ghost use Rattle.host_laws.specs.Claims.{StepsAreRaw, RunsAreRaw, RunsKeepTheTable, RunsLeaveOthers};
 
@@ -16,6 +17,25 @@ pub fn steps_are_raw()
 pub fn runs_are_raw()
     ensures { RunsAreRaw }
 {}
+
+/// Where raw code comes to its end within so many instructions, a plug-in whose code the rewriter made of
+/// it does, within that many and two more for each access, what the raw code did: up to its end, or up to
+/// its first call of the host.
+pub fn boxed_plugins_are_raw()
+    ensures { BoxedPluginsAreRaw }
+{
+    graft_machine::laws::stays_inside();
+    box_rewriter::laws::rewritten_is_boxed();
+    box_rewriter::laws::boxed_does_what_raw_does();
+}
+
+/// A call of such a plug-in answers as the raw code ends: it returns the same registers and leaves the
+/// same segment, divides by zero, or traps with the same code.
+pub fn boxed_calls_are_raw()
+    ensures { BoxedCallsAreRaw }
+{
+    boxed_plugins_are_raw();
+}
 
 /// Whatever a run does, what its records put back is the table with which it began.
 pub fn runs_keep_the_table()

@@ -6,9 +6,8 @@ use Rattle.graft_code.specs.Machine as model
 use Rattle.graft_code.specs.Machine.{first_machine, segment_base}
 use Rattle.vino_host.specs.declared.Answer.{Answer}
 use Rattle.vino_host.specs.declared.Call.{Call}
-use Rattle.vino_host.specs.declared.Instruction.{Instruction}
+use Rattle.graft_code.specs.declared.Instr.{Instr}
 use Rattle.vino_host.specs.declared.Machine.{Machine}
-use Rattle.vino_host.specs.declared.Plugin.{Plugin}
 use Rattle.vino_host.specs.declared.Record.{Record}
 use Rattle.vino_host.specs.declared.Request.{Request}
 use Rattle.vino_host.specs.declared.Word.{Word}
@@ -16,13 +15,14 @@ use Rattle.vino_host.specs.Codes.{is_drop}
 use Rattle.vino_host.specs.HostMachine.{by_place, machine_of}
 use Rattle.vino_host.specs.HostRuns.{State, state, Ended, host_run, with_r0}
 use Rattle.vino_host.specs.Tables.{records_of, undone}
-use Rattle.vino_host.specs.Calls.{Frame, Pause, Found, found, found_in, frame_of, code_of}
+use Rattle.vino_host.specs.Plugins.{code_of}
+use Rattle.vino_host.specs.Calls.{Frame, Pause, Found, found, found_in, frame_of}
 use Rattle.vino_host.specs.Calls.{first_segment, first_frame, call_says, resumed}
 use Rattle.vino_host.proofs.Kept.{run_kept}
 use Rattle.vino_host.proofs.Stopping.{dropped, waiting}
 
 -- a call that begins
-pub begins : (plugin : Plugin) (request : Request) (bytes segment new : List ℕ) (table : List Word)
+pub begins : (plugin : List ℕ) (request : Request) (bytes segment new : List ℕ) (table : List Word)
     (call : Call) (cpu : Machine) (x : Found) →
     x ≡ found (frame_of call) (host_run call.number (code_of plugin) request.limit
     (state (machine_of cpu new) table (records_of call.log))) →
@@ -43,7 +43,7 @@ begins plugin request bytes segment new table call cpu x all frame none prepared
     (first_machine (segment_base 0) args (by_place (first_segment plugin request bytes segment))) r) none
 
 -- a call that goes on with a word
-pub resumes : (plugin : Plugin) (p : Pause) (how x : ℕ) (table : List Word) (f : Found) → how ≡ 0 →
+pub resumes : (plugin : List ℕ) (p : Pause) (how x : ℕ) (table : List Word) (f : Found) → how ≡ 0 →
     f ≡ found p.frame (host_run p.frame.number (code_of plugin) p.left
     (state (with_r0 x p.machine) table p.records)) → f ≡ resumed plugin p how x table
 resumes plugin p how x table f e all =
@@ -59,7 +59,7 @@ segment_back f e r call segment old table h same at d =
     (λ k room. ap (λ (g : ℕ → ℕ). g k) (all.segment_is ∙ ap (λ (s : List ℕ). by_place s) at))
 
 -- the table after a drop
-pub table_back : (f : Frame) (number : ℕ) (code : List Instruction) (n : ℕ) (s : State) (r : Answer) (call : Call)
+pub table_back : (f : Frame) (number : ℕ) (code : List Instr) (n : ℕ) (s : State) (r : Answer) (call : Call)
     (segment : List ℕ) (table : List Word) →
     found_in r call segment table ≡ found f (host_run number code n s) → is_drop r.kind ≡ true →
     table ≡ undone s.records s.table
@@ -67,7 +67,7 @@ table_back f number code n s r call segment table h d =
     (dropped f (host_run number code n s) r call segment table h d).table_is ∙ run_kept number code n s
 
 -- the table of a call that waits
-pub table_kept : (f : Frame) (number : ℕ) (code : List Instruction) (n : ℕ) (s : State) (r : Answer) (call : Call)
+pub table_kept : (f : Frame) (number : ℕ) (code : List Instr) (n : ℕ) (s : State) (r : Answer) (call : Call)
     (segment : List ℕ) (table : List Word) →
     found_in r call segment table ≡ found f (host_run number code n s) → call.state ≡ 1 →
     undone (records_of call.log) table ≡ undone s.records s.table

@@ -1,7 +1,10 @@
--- Instructions of an image as a plug-in's struct holds them.
-use Rattle.std.proofs.Common.{◌≡◌, ℕ, ◌<◌, ◌%◌, Bool, true, false}
+-- Instructions of an image as a plug-in's bytes hold them.
+use Rattle.std.proofs.Common.{◌≡◌, ℕ, ◌+◌, ◌*◌, ◌<◌, ◌%◌, ◌/◌, ◌^◌, Bool, true, false, List, [], ◌∷◌}
 use Rattle.std.proofs.Common.{refl, ap, ◌∙◌, arith}
 use Rattle.std.specs.Prelude.{◌&&◌}
+use Rattle.std.specs.List.{list_all}
+use Rattle.std.proofs.lemmas.Nat.{from_le_bytes-to_le_bytes_4}
+use Rattle.graft_code.specs.Images.{code_bytes}
 use Rattle.std.proofs.lemmas.Bool.{and_parts, eqb-true, ltb-true}
 use Rattle.graft_code.specs.declared.Instr.{Instr}
 use Rattle.graft_code.specs.declared.Op.{Op}
@@ -11,7 +14,7 @@ use Rattle.graft_code.specs.declared.Op.TheVariants.{Ldb, Stb, Jmp, Jz, Jnz, Cal
 use Rattle.graft_code.specs.declared.Op.TheVariants.{Ret}
 use Rattle.graft_code.specs.Boxed.{instr}
 use Rattle.graft_code.specs.Instructions.{row_of, fits, is_register_field, is_imm_field}
-use Rattle.vino_host.specs.HostMachine.{operation, instr_of}
+use Rattle.vino_host.specs.HostMachine.{operation, instr_by, code_in}
 
 -- the number of an operation stands for it
 pub operation_back : (op : Op) → operation (row_of op).number ≡ op
@@ -47,23 +50,40 @@ small_register : (named : Bool) (n : ℕ) → is_register_field named n ≡ true
 small_register true n h = let small : n < 16 = ltb-true n 16 h in omega (arith, small)
 small_register false n h = let none : n ≡ 0 = eqb-true n 0 h in rw none refl
 
--- an instruction that can be encoded is what its struct stands for
-pub held_instr : (i : Instr) → fits i ≡ true →
-    instr_of (record { op = (row_of i.op).number; a = i.a; b = i.b; c = i.c; imm = i.imm }) ≡ i
+-- the word of the four bytes of a word
+pub word_back : (n : ℕ) → n < 2 ^ 32 →
+    n % 256 + 256 * (n / 256 % 256) + 65536 * (n / 65536 % 256) + 16777216 * (n / 16777216 % 256) ≡ n
+word_back n h = omega (arith, from_le_bytes-to_le_bytes_4 n h)
+
+-- a number that an instruction may have is a word
+small_imm : (named : Bool) (n : ℕ) → is_imm_field named n ≡ true → n < 2 ^ 32
+small_imm true n h = ltb-true n (2 ^ 32) h
+small_imm false n h = omega (arith, eqb-true n 0 h)
+
+-- an instruction that can be encoded is what its eight bytes stand for
+held_instr : (i : Instr) → fits i ≡ true →
+    instr_by (row_of i.op).number i.a i.b i.c (i.imm % 256) (i.imm / 256 % 256) (i.imm / 65536 % 256)
+    (i.imm / 16777216 % 256) ≡ i
 held_instr i h =
     let f = (row_of i.op).form in
     let one = and_parts (is_register_field f.a i.a && is_register_field f.b i.b && is_register_field f.c i.c)
     (is_imm_field f.imm i.imm) h in
     let two = and_parts (is_register_field f.a i.a && is_register_field f.b i.b) (is_register_field f.c i.c) one.0 in
     let three = and_parts (is_register_field f.a i.a) (is_register_field f.b i.b) two.0 in
-    let op = operation_back i.op in
-    let a = small_register f.a i.a three.0 in
-    let b = small_register f.b i.b three.1 in
-    let c = small_register f.c i.c two.1 in
-    by_fields (operation (row_of i.op).number) (i.a % 16) (i.b % 16) (i.c % 16) op a b c
+    by_fields _ _ _ _ _ (operation_back i.op) (small_register f.a i.a three.0) (small_register f.b i.b three.1)
+    (small_register f.c i.c two.1) (word_back i.imm (small_imm f.imm i.imm one.1))
   where
-    by_fields : (o : Op) (x y z : ℕ) → o ≡ i.op → x ≡ i.a → y ≡ i.b → z ≡ i.c →
-        ◌≡◌ {A = Instr} (record { op = o; a = x; b = y; c = z; imm = i.imm }) i
-    by_fields o x y z p q r s =
-        ap (λ (k : Op). instr k x y z i.imm) p ∙ ap (λ (k : ℕ). instr i.op k y z i.imm) q
-        ∙ ap (λ (k : ℕ). instr i.op i.a k z i.imm) r ∙ ap (λ (k : ℕ). instr i.op i.a i.b k i.imm) s
+    by_fields : (o : Op) (x y z w : ℕ) → o ≡ i.op → x ≡ i.a → y ≡ i.b → z ≡ i.c → w ≡ i.imm → instr o x y z w ≡ i
+    by_fields o x y z w p q r s t =
+        ap (λ (k : Op). instr k x y z w) p ∙ ap (λ (k : ℕ). instr i.op k y z w) q
+        ∙ ap (λ (k : ℕ). instr i.op i.a k z w) r ∙ ap (λ (k : ℕ). instr i.op i.a i.b k w) s
+        ∙ ap (λ (k : ℕ). instr i.op i.a i.b i.c k) t
+
+-- code that can be encoded is what its bytes stand for
+pub code_back : (code : List Instr) → list_all fits code ≡ true → code_in (code_bytes code) ≡ code
+unfolding code_in
+code_back [] h = refl
+code_back (i ∷ is) h =
+    let both = and_parts (fits i) (list_all fits is) h in
+    ap (λ (x : Instr). x ∷ code_in (code_bytes is)) (held_instr i both.0)
+    ∙ ap (λ (xs : List Instr). i ∷ xs) (code_back is both.1)

@@ -3,7 +3,7 @@ use Rattle.std.proofs.Common.{◌≡◌, ℕ, zero, suc, Bool, true, false, cond
 use Rattle.std.proofs.Common.{ap, ◌∙◌, Option, Some, None}
 use Rattle.std.specs.Prelude.{not, nat_le, slice_get, slice_set}
 use Rattle.graft_code.specs.Machine.{Done}
-use Rattle.vino_host.specs.declared.Instruction.{Instruction}
+use Rattle.graft_code.specs.declared.Instr.{Instr}
 use Rattle.vino_host.specs.declared.Record.{Record}
 use Rattle.vino_host.specs.declared.Word.{Word}
 use Rattle.vino_host.specs.Codes.{BUSY, NO_RECORDS, BAD_ARGUMENT, NOT_CALLABLE}
@@ -80,7 +80,7 @@ done_kept number rest left Done.Outside s h = refl
 done_kept number rest left Done.PastEnd s h = refl
 
 -- a run keeps the table with which it began
-pub run_kept : (number : ℕ) (code : List Instruction) (n : ℕ) (s : State) →
+pub run_kept : (number : ℕ) (code : List Instr) (n : ℕ) (s : State) →
     first_table (host_run number code n s).state ≡ first_table s
 unfolding host_run
 run_kept number code zero s = refl

@@ -2,6 +2,8 @@ pub mod Undoing
 pub mod Turns
 pub mod Kept
 pub mod Holding
+pub mod Fetching
+pub mod Storing
 pub mod Stores
 pub mod Stopping
 pub mod Beginnings

@@ -4,8 +4,6 @@ use Rattle.std.specs.Prelude.{List, [], ◌∷◌, ◌++◌, length, take, drop,
 use Rattle.graft_code.specs.Machine.{Machine, first_machine, segment_base, FED_AT}
 use Rattle.vino_host.specs.declared.Answer.{Answer}
 use Rattle.vino_host.specs.declared.Call.{Call}
-use Rattle.vino_host.specs.declared.Instruction.{Instruction}
-use Rattle.vino_host.specs.declared.Plugin.{Plugin}
 use Rattle.vino_host.specs.declared.Record.{Record}
 use Rattle.vino_host.specs.declared.Request.{Request}
 use Rattle.vino_host.specs.declared.Stop.{Stop}
@@ -13,6 +11,7 @@ use Rattle.vino_host.specs.declared.Stop.TheVariants.{Returns, Waits, Drops}
 use Rattle.vino_host.specs.declared.Word.{Word}
 use Rattle.vino_host.specs.Codes.{RETURNED, BAD_ANSWER, WAITING, MISUSED, is_taken, given_bytes, is_refusal}
 use Rattle.vino_host.specs.HostMachine.{by_place, machine_of}
+use Rattle.vino_host.specs.Plugins.{code_of, body_of}
 use Rattle.vino_host.specs.HostRuns.{State, state, Ended, ended, host_run, with_r0}
 use Rattle.vino_host.specs.Tables.{records_of, undone, released}
 
@@ -66,14 +65,6 @@ pause_in call segment =
 -- the same, where the call waits
 abbrev pub pause_of : Call → List ℕ → Option Pause
 pause_of call segment = cond (call.state == 1) (Some (pause_in call segment)) None
-
--- the code in a plug-in's struct
-abbrev pub code_of : Plugin → List Instruction
-code_of plugin = take plugin.size plugin.code
-
--- the data in a plug-in's struct
-abbrev pub body_of : Plugin → List ℕ
-body_of plugin = take plugin.body_size plugin.body
 
 -- ---- answers
 
@@ -162,7 +153,7 @@ put_at place bytes segment =
 
 -- the segment with which a call begins: fresh with the plug-in's data, or as it is; then the bytes
 -- that it is fed
-abbrev pub first_segment : Plugin → Request → (fed : List ℕ) → List ℕ → List ℕ
+abbrev pub first_segment : (plugin : List ℕ) → Request → (fed : List ℕ) → List ℕ → List ℕ
 first_segment plugin request bytes segment =
     put_at FED_AT bytes (cond (request.fresh == 0) segment (filled 4096 (body_of plugin)))
 
@@ -178,7 +169,7 @@ first_frame request bytes segment =
     }
 
 -- the machine with which a call begins
-abbrev pub begun : Plugin → Request → (fed : List ℕ) → List ℕ → Machine
+abbrev pub begun : (plugin : List ℕ) → Request → (fed : List ℕ) → List ℕ → Machine
 begun plugin request bytes segment =
     first_machine (segment_base 0) (request.r0 ∷ request.r1 ∷ request.r2 ∷ request.r3 ∷ [])
     (by_place (first_segment plugin request bytes segment))
@@ -194,7 +185,7 @@ abbrev pub MISUSED_ANSWER : Answer
 MISUSED_ANSWER = plain_answer MISUSED 0 0
 
 -- what a caller finds after a call
-abbrev pub call_says : Plugin → Request → (fed : List ℕ) → (segment : List ℕ) → List Word → Found
+abbrev pub call_says : (plugin : List ℕ) → Request → (fed : List ℕ) → (segment : List ℕ) → List Word → Found
 call_says plugin request bytes segment table =
     found (first_frame request bytes segment)
     (host_run request.number (code_of plugin) request.limit
@@ -217,7 +208,7 @@ abbrev pub is_resumable : Call → ℕ → Bool
 is_resumable call how = call.state == 1 && (how == 0 || is_refusal how)
 
 -- what a caller finds after its answer to a call that waits
-abbrev pub resumed : Plugin → Pause → (how x : ℕ) → List Word → Found
+abbrev pub resumed : (plugin : List ℕ) → Pause → (how x : ℕ) → List Word → Found
 resumed plugin p how x table =
     elim (how == 0) [
       | true ↦ found p.frame

@@ -1,17 +1,17 @@
 -- The machine of a plug-in: registers and a place, over a segment of 4,096 bytes. Its code is what
--- stands in the caller's struct, whatever that is: a number that is no operation's traps, and
+-- stands in the caller's bytes, whatever that is: a number that is no operation's traps, and
 -- registers count modulo 16.
-use Rattle.std.specs.Prelude.{ℕ, ◌%◌, ◌==◌, Bool, true, false, cond, List, slice_index}
-use Rattle.std.specs.Prelude.{slice_get, Some, None}
+use Rattle.std.specs.Prelude.{ℕ, ◌+◌, ◌*◌, ◌%◌, ◌<◌, ◌==◌, Bool, true, false, cond, List, [], ◌∷◌, slice_index}
+use Rattle.std.specs.Prelude.{Some}
 use Rattle.graft_code.specs.declared.Instr.{Instr}
 use Rattle.graft_code.specs.declared.Op.{Op}
 use Rattle.graft_code.specs.declared.Op.TheVariants.{Li, Mov, Add, Sub, Mul, And, Or, Xor, Shl}
 use Rattle.graft_code.specs.declared.Op.TheVariants.{Shr, Divu, Remu, Sltu, Addi, Andi, Ldw, Stw}
 use Rattle.graft_code.specs.declared.Op.TheVariants.{Ldb, Stb, Jmp, Jz, Jnz, Call, Callr, Trap}
 use Rattle.graft_code.specs.declared.Op.TheVariants.{Ret}
-use Rattle.graft_code.specs.Machine.{Done, Places, aligned, exec, step_by}
+use Rattle.graft_code.specs.Boxed.{instr}
+use Rattle.graft_code.specs.Machine.{Done, Places, aligned, step_by}
 use Rattle.graft_code.specs.Machine as model
-use Rattle.vino_host.specs.declared.Instruction.{Instruction}
 use Rattle.vino_host.specs.declared.Machine.{Machine}
 use Rattle.vino_host.specs.declared.Outcome.{Outcome}
 use Rattle.vino_host.specs.declared.Outcome.TheVariants.{Went, Called, Returned, DividedByZero, Trapped, PastEnd}
@@ -26,10 +26,16 @@ operation n =
     (cond (n == 19) Stb (cond (n == 20) Jmp (cond (n == 21) Jz (cond (n == 22) Jnz
     (cond (n == 23) Call (cond (n == 24) Callr (cond (n == 26) Ret Trap))))))))))))))))))))))))
 
--- the instruction of the definitions that a plug-in's is
-abbrev pub instr_of : Instruction → Instr
-instr_of w =
-    record { op = operation w.op; a = w.a % 16; b = w.b % 16; c = w.c % 16; imm = w.imm }
+-- the instruction that eight bytes stand for: an operation, three registers, and a word, its lowest
+-- byte first
+abbrev pub instr_by : (o a b c w x y z : ℕ) → Instr
+instr_by o a b c w x y z =
+    instr (operation o) (a % 16) (b % 16) (c % 16) (w + 256 * x + 65536 * y + 16777216 * z)
+
+-- the code that bytes stand for
+unfoldable pub code_in : List ℕ → List Instr
+code_in (o ∷ a ∷ b ∷ c ∷ w ∷ x ∷ y ∷ z ∷ bytes) = instr_by o a b c w x y z ∷ code_in bytes
+code_in _ = []
 
 -- a list of numbers by place, 0 past its end
 abbrev pub by_place : List ℕ → ℕ → ℕ
@@ -44,13 +50,17 @@ machine_of cpu segment =
 abbrev pub wrapped_place : Places
 wrapped_place m width a = Some (aligned width (a % 4096))
 
+-- an instruction at a place of a plug-in's code: its registers are below 16, and there is a place
+-- behind it
+pub record IsPlaced (pc : ℕ) (i : Instr) : Type 0 where
+  pub a : i.a < 16
+  pub b : i.b < 16
+  pub c : i.c < 16
+  pub place : pc < 1024
+
 -- one instruction of a plug-in's code
-abbrev pub host_step : List Instruction → model.Machine → Done
-host_step code m =
-    elim (slice_get code m.pc) [
-      | None ↦ Done.PastEnd
-      | Some w ↦ exec wrapped_place (operation w.op) (w.a % 16) (w.b % 16) (w.c % 16) w.imm m
-    ]
+abbrev pub host_step : List Instr → model.Machine → Done
+host_step code m = step_by wrapped_place code m
 
 -- what an outcome says was done, where this is the machine afterwards
 abbrev pub done_of : Outcome → model.Machine → Done

@@ -3,7 +3,7 @@
 use Rattle.std.specs.Prelude.{ℕ, zero, suc, true, false, nat_le, List}
 use Rattle.graft_code.specs.Objects.{at}
 use Rattle.graft_code.specs.Machine.{Machine, Done, Went, Called, Returned, DividedByZero, Trapped, Outside, PastEnd}
-use Rattle.vino_host.specs.declared.Instruction.{Instruction}
+use Rattle.graft_code.specs.declared.Instr.{Instr}
 use Rattle.vino_host.specs.declared.Word.{Word}
 use Rattle.vino_host.specs.declared.Record.{Record}
 use Rattle.vino_host.specs.declared.Reply.{Reply}
@@ -77,7 +77,7 @@ after_done number rest left Outside s = ended (Drops BROKEN 0) left s
 after_done number rest left PastEnd s = ended (Drops BROKEN 0) left s
 
 -- the run of code for a call of this number, which may take n instructions more
-unfoldable pub host_run : (number : ℕ) → List Instruction → (n : ℕ) → State → Ended
+unfoldable pub host_run : (number : ℕ) → List Instr → (n : ℕ) → State → Ended
 host_run number code zero s = ended (Drops NO_STEPS 0) 0 s
 host_run number code (suc n) s =
     after_done number (host_run number code n) n (host_step code s.machine) s

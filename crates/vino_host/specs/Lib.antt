@@ -1,5 +1,6 @@
 pub mod Codes
 pub mod HostMachine
+pub mod Plugins
 pub mod Tables
 pub mod HostRuns
 pub mod Calls

@@ -1,5 +1,5 @@
--- What loading writes into a plug-in's struct, and what it answers.
-use Rattle.std.specs.Prelude.{ℕ, ◌==◌, cond, map, Option, Some, None, Result, Ok, Err}
+-- What loading answers.
+use Rattle.std.specs.Prelude.{ℕ, ◌==◌, cond, nat_le, Option, Some, None, Result, Ok, Err}
 use Rattle.graft_code.specs.World.{Image}
 use Rattle.graft_code.specs.declared.Keys.{Keys}
 use Rattle.graft_code.specs.Images.{LoadFault, Length, Magic, Version, TooLarge, BadFlags, NoKey}
@@ -7,18 +7,7 @@ use Rattle.graft_code.specs.Images.{Seal, BadOp, Register, Jump, Memory, DirectC
 use Rattle.graft_loader.specs.declared.LoadFault as loader
 use Rattle.graft_loader.specs.Faults.{refusal_of}
 use Rattle.vino_host.specs.declared.KeyPair.{KeyPair}
-use Rattle.vino_host.specs.declared.Plugin.{Plugin}
-use Rattle.vino_host.specs.HostMachine.{instr_of}
-use Rattle.vino_host.specs.Calls.{code_of, body_of}
-
--- the image that stands in a plug-in's struct
-abbrev pub image_of : Plugin → Image
-image_of plugin =
-    record {
-      code = map instr_of (code_of plugin);
-      body = body_of plugin;
-      keep = plugin.keep == 1;
-    }
+use Rattle.vino_host.specs.Plugins.{needed}
 
 -- the keys in a caller's struct: one, or two
 abbrev pub keys_of : KeyPair → Keys
@@ -41,10 +30,11 @@ fault_number End = (11, 0)
 fault_number BadFlags = (12, 0)
 fault_number NoKey = (13, 0)
 
--- what is said of an image: 0 and no place where it loads
-abbrev pub verdict_of : Result Image LoadFault → ℕ × ℕ
-verdict_of (Ok i) = (0, 0)
-verdict_of (Err fault) = fault_number fault
+-- What is said of an image where there are so many bytes for it: 0 and no place where it loads, 15
+-- and how many it needs where these are too few.
+abbrev pub verdict_of : (room : ℕ) → Result Image LoadFault → ℕ × ℕ
+verdict_of room (Ok i) = cond (nat_le (needed i) room) (0, 0) (15, needed i)
+verdict_of room (Err fault) = fault_number fault
 
 -- the number and the place of a refusal, if it is one; want of memory is none
 abbrev pub number_by : Option LoadFault → ℕ × ℕ

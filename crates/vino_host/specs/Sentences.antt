@@ -37,4 +37,6 @@ refusal_sentence n =
     (cond (n == 12) (codes "a flag is set that is not known")
     (cond (n == 13) (codes "it names a key that was not given")
     (cond (n == 14) (codes "there was no memory")
-    (codes "no number of a refusal")))))))))))))))
+    (cond (n == 15) (codes "it needs more bytes than there are")
+    (cond (n == 16) (codes "the loaded plug-in was changed")
+    (codes "no number of a refusal")))))))))))))))))

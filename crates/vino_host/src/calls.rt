@@ -8,15 +8,17 @@ ghost use Rattle.vino_host.specs.Codes as codes;
 ghost use Rattle.vino_host.specs.HostMachine.{by_place, machine_of};
 ghost use Rattle.vino_host.specs.HostRuns.{state, ended, host_run};
 ghost use Rattle.vino_host.specs.Tables.{records_of, undone};
-ghost use Rattle.vino_host.specs.Calls.{code_of, body_of, frame_of, pause_in, found_by, found, found_in};
+ghost use Rattle.vino_host.specs.Plugins.{code_of};
+ghost use Rattle.vino_host.specs.Calls.{frame_of, pause_in, found_by, found, found_in};
 ghost use Rattle.vino_host.specs.Calls.{first_segment, first_frame, call_says, resumed, MISUSED_ANSWER};
 ghost use Rattle.vino_host.specs.Calls as spec;
 
+use crate::plugins::{body, code};
 use crate::running::run;
 use crate::table::{release, undo};
 use crate::{
-    Answer, BAD_ANSWER, Call, Instruction, MISUSED, MOST_BODY, MOST_BYTES, MOST_CODE, Machine,
-    Plugin, RETURNED, Request, SEGMENT, Stop, Stopped, WAITING, Word,
+    Answer, BAD_ANSWER, Call, MISUSED, MOST_BYTES, Machine, RETURNED, Request, SEGMENT, Stop,
+    Stopped, WAITING, Word,
 };
 
 /// The base of a plug-in's segment, as its code sees it.
@@ -163,25 +165,9 @@ fn settle(call: &mut Call, stopped: &Stopped, segment: &mut [u8], table: &mut [W
     }
 }
 
-/// The code of a plug-in.
-fn code(plugin: &Plugin) -> &[Instruction]
-    ensures code { result.now ≡ code_of plugin.now }
-    ensures few { length result.now ≤ 1024 }
-{
-    &plugin.code[..(plugin.size as usize).min(MOST_CODE)]
-}
-
-/// The data of a plug-in.
-fn body(plugin: &Plugin) -> &[u8]
-    ensures body { result.now ≡ body_of plugin.now }
-    ensures few { length result.now ≤ 4096 }
-{
-    &plugin.body[..(plugin.body_size as usize).min(MOST_BODY)]
-}
-
 /// A call runs from this machine on, with so many instructions left.
 fn run_on(
-    plugin: &Plugin,
+    plugin: &[u8],
     call: &mut Call,
     machine: Machine,
     left: u32,
@@ -225,7 +211,7 @@ fn put_at(segment: &mut [u8], place: usize, bytes: &[u8])
 }
 
 /// The segment with which a call begins.
-fn prepare(plugin: &Plugin, request: &Request, bytes: &[u8], segment: &mut [u8])
+fn prepare(plugin: &[u8], request: &Request, bytes: &[u8], segment: &mut [u8])
     requires size { length segment.old ≡ 4096 }
     requires few { length bytes.now ≤ 512 }
     ensures { segment.new ≡ first_segment plugin.now request.now bytes.now segment.old }
@@ -277,7 +263,7 @@ fn is_call(request: &Request, bytes: &[u8]) -> bool
 ///
 /// Where it is dropped, segment and table are as they were before, to the bit.
 pub fn begin(
-    plugin: &Plugin,
+    plugin: &[u8],
     call: &mut Call,
     request: &Request,
     bytes: &[u8],
@@ -311,7 +297,7 @@ pub fn begin(
 /// the cause, `NOT_CALLABLE` or `BAD_ARGUMENT`), by which it is dropped. Where the call doesn't wait, or
 /// how is neither, nothing is done.
 pub fn resume(
-    plugin: &Plugin,
+    plugin: &[u8],
     call: &mut Call,
     how: u32,
     word: u32,

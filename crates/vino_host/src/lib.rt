@@ -7,13 +7,15 @@ ghost use Rattle.std.specs.Prelude.{◌≡◌, ◌≤◌, ◌<◌};
 
 mod calls;
 mod loading;
+mod plugins;
 mod processor;
 mod running;
 mod sentences;
 mod table;
 
 pub use calls::{begin, resume};
-pub use loading::{LOADED, NO_MEMORY, load};
+pub use loading::{LOADED, NO_MEMORY, NO_ROOM, load};
+pub use plugins::is_whole;
 pub use sentences::{put_refusal_sentence, put_sentence, refusal_sentence, sentence};
 
 /// The bytes of a segment.
@@ -67,31 +69,6 @@ pub const WAITING: u32 = 32;
 
 /// The call was misused: nothing was done.
 pub const MISUSED: u32 = 33;
-
-/// An instruction as a plug-in's struct holds it: the number of its operation, registers, and a
-/// number. They are the eight bytes of docs/FORMATS.md.
-#[repr(C)]
-#[derive(Clone, Copy)]
-pub struct Instruction {
-    pub op: u8,
-    pub a: u8,
-    pub b: u8,
-    pub c: u8,
-    pub imm: u32,
-}
-
-/// A loaded plug-in: its code and data. `load` writes it, and calls only read it.
-#[repr(C)]
-pub struct Plugin {
-    /// How many instructions there are.
-    pub size: u32,
-    /// How many data bytes there are.
-    pub body_size: u32,
-    /// 1 where its image asks that segments be kept from one call to the next, else 0.
-    pub keep: u32,
-    pub code: [Instruction; MOST_CODE],
-    pub body: [u8; MOST_BODY],
-}
 
 /// Keys of sealed images: the first alone, or both.
 #[repr(C)]

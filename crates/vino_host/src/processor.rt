@@ -1,15 +1,16 @@
 //! One instruction of a plug-in, over its segment.
 
 ghost use Rattle.std.specs.Prelude.{◌≡◌, ℕ, ◌+◌, ◌%◌, ◌^◌, ◌<◌, ◌≤◌, List, false, cond, length, None, Some};
-ghost use Rattle.std.specs.Prelude.{slice_index};
+ghost use Rattle.std.specs.Prelude.{slice_index, slice_get, IfSome};
 ghost use Rattle.graft_code.specs.Objects.{at};
 ghost use Rattle.graft_code.specs.Machine.{word, exec, load, store, aligned};
 ghost use Rattle.graft_code.specs.Machine as model;
 ghost use Rattle.vino_host.specs.HostMachine.{by_place, machine_of, done_of, goes_on, wrapped_place, host_step};
+ghost use Rattle.vino_host.specs.HostMachine.{code_in, IsPlaced};
 ghost use Rattle.vino_host.specs.HostMachine as spec;
 
-use crate::{Instruction, Machine, Outcome};
-use graft_code::Op;
+use crate::{Machine, Outcome};
+use graft_code::{Instr, Op};
 
 /// The operation of a number; one that is none traps.
 #[inline(always)]
@@ -43,6 +44,26 @@ fn operation(number: u8) -> Op
         24 => Op::Callr,
         26 => Op::Ret,
         _ => Op::Trap,
+    }
+}
+
+/// The instruction at a place of code, if there is one.
+#[inline(always)]
+fn fetch(code: &[u8], pc: u32) -> Option<Instr>
+    requires { length code.now ≤ 8192 }
+    ensures instruction { result ≡ slice_get (code_in code.now) pc }
+    ensures within { IfSome result (λ i. IsPlaced pc i) }
+{
+    let at = 8 * pc as usize;
+    match code.get(at..at + 8) {
+        Some(w) => Some(Instr {
+            op: operation(w[0]),
+            a: w[1] % 16,
+            b: w[2] % 16,
+            c: w[3] % 16,
+            imm: u32::from_le_bytes([w[4], w[5], w[6], w[7]]),
+        }),
+        None => None,
     }
 }
 
@@ -201,13 +222,13 @@ impl Machine {
 
     /// Carries out an instruction, its fields by name.
     #[inline(always)]
-    fn perform(&mut self, segment: &mut [u8], op: Op, i: &Instruction) -> Outcome
+    fn perform(&mut self, segment: &mut [u8], i: &Instr) -> Outcome
         requires size { length segment.old ≡ 4096 }
         requires a { i.now.a < 16 }
         requires b { i.now.b < 16 }
         requires c { i.now.c < 16 }
         requires place { self.old.pc + 1 < 2 ^ 32 }
-        ensures done { exec wrapped_place op i.now.a i.now.b i.now.c i.now.imm
+        ensures done { exec wrapped_place i.now.op i.now.a i.now.b i.now.c i.now.imm
             (machine_of self.old segment.old) ≡ done_of result (machine_of self.new segment.new) }
         ensures ended { goes_on result ≡ false → self.new ≡ self.old }
         ensures memory { goes_on result ≡ false → segment.new ≡ segment.old }
@@ -215,7 +236,7 @@ impl Machine {
         let a = self.reg(i.a);
         let b = self.reg(i.b);
         let c = self.reg(i.c);
-        match op {
+        match i.op {
             Op::Li => self.put(i.a, i.imm),
             Op::Mov => self.put(i.a, b),
             Op::Add => self.put(i.a, b.wrapping_add(c)),
@@ -253,31 +274,17 @@ impl Machine {
 
     /// Carries out the next instruction of code.
     #[inline(always)]
-    pub(crate) fn step(&mut self, segment: &mut [u8], code: &[Instruction]) -> Outcome
+    pub(crate) fn step(&mut self, segment: &mut [u8], code: &[u8]) -> Outcome
         requires size { length segment.old ≡ 4096 }
-        requires few { length code.now ≤ 1024 }
-        ensures done { host_step code.now (machine_of self.old segment.old)
+        requires few { length code.now ≤ 8192 }
+        ensures done { host_step (code_in code.now) (machine_of self.old segment.old)
             ≡ done_of result (machine_of self.new segment.new) }
         ensures ended { goes_on result ≡ false → self.new ≡ self.old }
         ensures memory { goes_on result ≡ false → segment.new ≡ segment.old }
     {
-        match code.get(self.pc as usize) {
-            Some(i) => self.perform(segment, operation(i.op), &within(i)),
+        match fetch(code, self.pc) {
+            Some(i) => self.perform(segment, &i),
             None => Outcome::PastEnd,
         }
-    }
-}
-
-/// An instruction whose registers count modulo 16.
-#[inline(always)]
-fn within(i: &Instruction) -> Instruction
-    ensures { result ≡ record i.now { a = i.now.a % 16; b = i.now.b % 16; c = i.now.c % 16 } }
-{
-    Instruction {
-        op: i.op,
-        a: i.a % 16,
-        b: i.b % 16,
-        c: i.c % 16,
-        imm: i.imm,
     }
 }

@@ -2,14 +2,14 @@
 
 ghost use Rattle.std.specs.Prelude.{◌≡◌, ◌≤◌, List, ℕ, length};
 ghost use Rattle.graft_code.specs.Machine as model;
-ghost use Rattle.vino_host.specs.HostMachine.{machine_of};
+ghost use Rattle.vino_host.specs.HostMachine.{machine_of, code_in};
 ghost use Rattle.vino_host.specs.HostRuns.{state, ended, host_run, answered, replied};
 ghost use Rattle.vino_host.specs.Tables.{records_of};
 
 use crate::table::serve;
 use crate::{
-    BROKEN, DIVIDED, Instruction, Log, Machine, NO_STEPS, NOT_CALLABLE, Outcome, Reply, Served,
-    Stop, Stopped, TRAPPED, Word,
+    BROKEN, DIVIDED, Log, Machine, NO_STEPS, NOT_CALLABLE, Outcome, Reply, Served, Stop, Stopped,
+    TRAPPED, Word,
 };
 
 /// Answers what a plug-in called with these values in r0 and r1, or says why it stops.
@@ -35,17 +35,17 @@ fn answer(table: &mut [Word], log: &mut Log, number: u32, id: u32, r0: u32, r1: 
 pub(crate) fn run(
     machine: Machine,
     segment: &mut [u8],
-    code: &[Instruction],
+    code: &[u8],
     table: &mut [Word],
     log: &mut Log,
     number: u32,
     limit: u32,
 ) -> Stopped
     requires size { length segment.old ≡ 4096 }
-    requires few { length code.now ≤ 1024 }
+    requires few { length code.now ≤ 8192 }
     ensures { ended result.stop result.left
         (state (machine_of result.machine segment.new) table.new (records_of log.new))
-        ≡ host_run number code.now limit
+        ≡ host_run number (code_in code.now) limit
         (state (machine_of machine segment.old) table.old (records_of log.old)) }
 {
     let mut machine = machine;

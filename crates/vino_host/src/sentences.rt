@@ -47,6 +47,8 @@ pub fn refusal_sentence(code: u32) -> &'static [u8]
         12 => b"a flag is set that is not known",
         13 => b"it names a key that was not given",
         14 => b"there was no memory",
+        15 => b"it needs more bytes than there are",
+        16 => b"the loaded plug-in was changed",
         _ => b"no number of a refusal",
     }
 }

@@ -1,41 +1,55 @@
 //! The library for hosts in C (hosting/vino_host.h): one export for each function of `vino_host`.
 #![tactic(auto)]
 
-ghost use Rattle.std.specs.Prelude.{◌≡◌, ◌≢◌, ◌≤◌, true, false, Ok};
+ghost use Rattle.std.specs.Prelude.{◌≡◌, ◌≢◌, ◌≤◌, ◌+◌, cond, drop, length, true, false, Ok};
 ghost use Rattle.graft_code.specs.Images as model;
 ghost use Rattle.vino_host.specs.Codes.{is_drop};
 ghost use Rattle.vino_host.specs.Tables.{records_of, undone};
 ghost use Rattle.vino_host.specs.Calls.{found_in, call_says, resumed, pause_in, is_call, is_resumable};
 ghost use Rattle.vino_host.specs.Calls.{MISUSED_ANSWER, filled};
-ghost use Rattle.vino_host.specs.Loaded.{image_of, keys_of, verdict_of};
+ghost use Rattle.vino_host.specs.Loaded.{keys_of, verdict_of};
+ghost use Rattle.vino_host.specs.Plugins.{content_of, image_of, is_whole};
 ghost use Rattle.vino_host.specs.Sentences.{sentence, refusal_sentence};
 
 use std::alloc::Global;
-use vino_host::{Answer, Call, KeyPair, Plugin, Request, Word};
+use vino_host::{Answer, Call, KeyPair, Request, Word};
 
 /// Loads a sealed image under one or two keys: 0, or the number of its refusal L1 to L13 with the
-/// place of the instruction, or 14 where there is no memory. Where it isn't 0, the plug-in's struct
-/// stays as it was.
+/// place of the instruction, 14 where there is no memory, or 15 where it needs more bytes than the
+/// plug-in has, with how many it needs. Where it isn't 0, the plug-in's bytes stay as they were.
 #[unsafe(no_mangle)]
 pub extern "C" fn vino_load(
     alloc: Global,
     keys: &KeyPair,
     image: &[u8],
-    plugin: &mut Plugin,
+    plugin: &mut [u8],
     place: &mut u32,
 ) -> u32
     ensures loaded { result ≡ 0 → model.load (keys_of keys.now) image.now ≡ Ok (image_of plugin.new) }
-    ensures says { result ≢ 14 →
-        verdict_of (model.load (keys_of keys.now) image.now) ≡ (result, place.new) }
+    ensures whole { result ≡ 0 → is_whole plugin.new ≡ true }
+    ensures says { result ≢ 14 → verdict_of (length plugin.old)
+        (model.load (keys_of keys.now) image.now) ≡ (result, place.new) }
     ensures kept { result ≢ 0 → plugin.new ≡ plugin.old }
+    ensures behind { result ≡ 0 → drop (32 + length (content_of plugin.new)) plugin.new
+        ≡ drop (32 + length (content_of plugin.new)) plugin.old }
+    ensures size { length plugin.new ≡ length plugin.old }
 {
     vino_host::load(alloc, keys, image, plugin, place)
+}
+
+/// Says whether a loaded plug-in is still what was loaded: 0 where its mark is the SHA-256 of its
+/// content, else 16.
+#[unsafe(no_mangle)]
+pub extern "C" fn vino_check(plugin: &[u8]) -> u32
+    ensures { result ≡ cond (is_whole plugin.now) 0 16 }
+{
+    if vino_host::is_whole(plugin) { 0 } else { 16 }
 }
 
 /// Calls a plug-in, as `vino_host::begin` does; the kind of its answer is returned too.
 #[unsafe(no_mangle)]
 pub extern "C" fn vino_begin(
-    plugin: &Plugin,
+    plugin: &[u8],
     call: &mut Call,
     request: &Request,
     bytes: &[u8],
@@ -66,7 +80,7 @@ pub extern "C" fn vino_begin(
 /// Answers a call that waits, as `vino_host::resume` does; the kind of its answer is returned too.
 #[unsafe(no_mangle)]
 pub extern "C" fn vino_resume(
-    plugin: &Plugin,
+    plugin: &[u8],
     call: &mut Call,
     how: u32,
     word: u32,

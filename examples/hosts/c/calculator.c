@@ -7,7 +7,7 @@
 #include <string.h>
 
 int main(int count, char **words) {
-    static vino_plugin plugin;
+    static uint8_t plugin[VINO_PLUGIN_BYTES(VINO_MOST_CODE, VINO_MOST_BODY)];
     static vino_call call;
     static uint8_t segment[VINO_SEGMENT];
     static const uint8_t none[1] = {0};
@@ -17,11 +17,11 @@ int main(int count, char **words) {
     char name[32];
     if (count != 2) return 1;
     while (scanf("%31s %u %u", name, &request.r0, &request.r1) == 3) {
-        if (!load_plugin(words[1], name, &plugin)) continue;
-        vino_begin(&plugin, &call, &request, none, 0, segment, table, 2, &answer);
+        if (!load_plugin(words[1], name, plugin, sizeof plugin)) continue;
+        vino_begin(plugin, sizeof plugin, &call, &request, none, 0, segment, table, 2, &answer);
         while (answer.kind == VINO_WAITING) {
             uint32_t how = answer.detail == 2 ? 0 : VINO_NOT_CALLABLE;
-            vino_resume(&plugin, &call, how, (uint32_t)strlen(name), segment, table, 2, &answer);
+            vino_resume(plugin, sizeof plugin, &call, how, (uint32_t)strlen(name), segment, table, 2, &answer);
         }
         if (answer.kind == VINO_RETURNED)
             printf("%s %u (%u instructions)\n", name, answer.r0, answer.steps);

@@ -11,7 +11,7 @@ enum { WORDS = 16 };
 int main(int count, char **words) {
     static const char *const names[] = {"bad-divides", "bad-traps", "bad-unknown", "bad-argument", "bad-endless",
                                         "bad-records", "bad-refused", "bad-answers"};
-    static vino_plugin plugin;
+    static uint8_t plugin[VINO_PLUGIN_BYTES(VINO_MOST_CODE, VINO_MOST_BODY)];
     static vino_call call;
     static uint8_t segment[VINO_SEGMENT], before[VINO_SEGMENT];
     static const uint8_t none[1] = {0};
@@ -25,16 +25,21 @@ int main(int count, char **words) {
     for (size_t i = 0; i < sizeof names / sizeof *names; i++) {
         memcpy(segment, before, sizeof segment);
         memcpy(table, first, sizeof table);
-        if (!load_plugin(words[1], names[i], &plugin)) return 1;
-        vino_begin(&plugin, &call, &request, none, 0, segment, table, WORDS, &answer);
+        if (!load_plugin(words[1], names[i], plugin, sizeof plugin)) return 1;
+        vino_begin(plugin, sizeof plugin, &call, &request, none, 0, segment, table, WORDS, &answer);
         if (answer.kind == VINO_WAITING) {
             printf("%s waits: word 1 is %u and belongs to %u\n", names[i], table[1].value, table[1].owner);
-            vino_resume(&plugin, &call, VINO_BAD_ARGUMENT, 0, segment, table, WORDS, &answer);
+            vino_resume(plugin, sizeof plugin, &call, VINO_BAD_ARGUMENT, 0, segment, table, WORDS, &answer);
         }
         int same = !memcmp(segment, before, sizeof segment) && !memcmp(table, first, sizeof table);
         printf("%s dropped: kind %u detail %u (%u instructions), %s\n", names[i], answer.kind, answer.detail, answer.steps,
                same ? "all as before" : "CHANGED");
         failed += !same;
     }
+    /* A stray write to a loaded plug-in. */
+    char text[64];
+    plugin[60] ^= 1;
+    vino_refusal_sentence(vino_check(plugin, sizeof plugin), text);
+    printf("a stray write: %s\n", text);
     return failed != 0;
 }

@@ -25,7 +25,8 @@ class Plugin {
     static std::unique_ptr<Plugin> load(const vino_keys &keys, const std::vector<std::uint8_t> &image, std::uint32_t &refusal) {
         std::unique_ptr<Plugin> made(new Plugin);
         std::uint32_t place = 0;
-        refusal = vino_load(&keys, image.data(), image.size(), &made->plugin_, &place);
+        made->plugin_.resize(image.size() + 1);
+        refusal = vino_load(&keys, image.data(), image.size(), made->plugin_.data(), made->plugin_.size(), &place);
         if (refusal != VINO_LOADED) made.reset();
         return made;
     }
@@ -33,13 +34,14 @@ class Plugin {
     // Calls the plug-in over a table of words. `bytes` are fed to it, and are what it gives afterwards.
     vino_answer call(vino_request request, std::vector<std::uint8_t> &bytes, std::vector<vino_word> &table, const Host &host) {
         vino_answer answer;
-        request.fresh = plugin_.keep == 1 && called_ ? 0 : 1;
+        request.fresh = VINO_KEEPS(plugin_) && called_ ? 0 : 1;
         bytes.reserve(1);
         table.reserve(1);
-        vino_begin(&plugin_, &call_, &request, bytes.data(), bytes.size(), segment_, table.data(), table.size(), &answer);
+        vino_begin(plugin_.data(), plugin_.size(), &call_, &request, bytes.data(), bytes.size(), segment_, table.data(), table.size(), &answer);
         while (answer.kind == VINO_WAITING) {
             auto word = host(answer.detail, answer);
-            vino_resume(&plugin_, &call_, word ? 0 : VINO_NOT_CALLABLE, word.value_or(0), segment_, table.data(), table.size(), &answer);
+            std::uint32_t how = word ? 0 : VINO_NOT_CALLABLE;
+            vino_resume(plugin_.data(), plugin_.size(), &call_, how, word.value_or(0), segment_, table.data(), table.size(), &answer);
         }
         if (answer.kind == VINO_RETURNED) {
             called_ = true;
@@ -48,9 +50,12 @@ class Plugin {
         return answer;
     }
 
+    // Whether the plug-in is still what was loaded.
+    bool check() const { return vino_check(plugin_.data(), plugin_.size()) == VINO_LOADED; }
+
   private:
     Plugin() = default;
-    vino_plugin plugin_;
+    std::vector<std::uint8_t> plugin_; // never empty: a pointer is never null
     vino_call call_;
     std::uint8_t segment_[VINO_SEGMENT] = {};
     bool called_ = false;

@@ -18,7 +18,7 @@ import (
 
 // Sandbox is a loaded plug-in with its segment and its call. Use it in one goroutine at a time.
 type Sandbox struct {
-	plugin  C.vino_plugin
+	plugin  []C.uint8_t
 	call    C.vino_call
 	segment [C.VINO_SEGMENT]C.uint8_t
 }
@@ -37,11 +37,17 @@ func Load(keys *C.vino_keys, image []byte) (*Sandbox, error) {
 	made := new(Sandbox)
 	var place C.uint32_t
 	bytes := append(image, 0) // a pointer is never null, also where the image is empty
-	code := C.vino_load(keys, (*C.uint8_t)(&bytes[0]), C.size_t(len(image)), &made.plugin, &place)
+	made.plugin = make([]C.uint8_t, len(bytes)) // an image never needs more bytes than it has
+	code := C.vino_load(keys, (*C.uint8_t)(&bytes[0]), C.size_t(len(image)), &made.plugin[0], C.size_t(len(made.plugin)), &place)
 	if code != C.VINO_LOADED {
 		return nil, Refusal(code)
 	}
 	return made, nil
+}
+
+// Check tells whether the plug-in is still what was loaded.
+func (s *Sandbox) Check() bool {
+	return C.vino_check(&s.plugin[0], C.size_t(len(s.plugin))) == C.VINO_LOADED
 }
 
 // Call calls the plug-in over a table of one word or more. The host answers ids 2 to 15: with a word, or
@@ -50,14 +56,14 @@ func (s *Sandbox) Call(request C.vino_request, table []C.vino_word, host func(id
 	var answer C.vino_answer
 	var bytes [1]C.uint8_t
 	length := C.size_t(len(table))
-	C.vino_begin(&s.plugin, &s.call, &request, &bytes[0], 0, &s.segment[0], &table[0], length, &answer)
+	C.vino_begin(&s.plugin[0], C.size_t(len(s.plugin)), &s.call, &request, &bytes[0], 0, &s.segment[0], &table[0], length, &answer)
 	for answer.kind == C.VINO_WAITING {
 		word, ok := host(uint32(answer.detail))
 		how := C.uint32_t(0)
 		if !ok {
 			how = C.VINO_NOT_CALLABLE
 		}
-		C.vino_resume(&s.plugin, &s.call, how, C.uint32_t(word), &s.segment[0], &table[0], length, &answer)
+		C.vino_resume(&s.plugin[0], C.size_t(len(s.plugin)), &s.call, how, C.uint32_t(word), &s.segment[0], &table[0], length, &answer)
 	}
 	return answer
 }
@@ -104,6 +110,13 @@ func main() {
 	if _, err := Load(&keys, changed); err != nil {
 		fmt.Println("changed image refused:", err)
 	}
+	stray, err := Load(&keys, image(folder, "count"))
+	if err != nil {
+		log.Fatal(err)
+	}
+	loaded := stray.Check()
+	stray.plugin[50] ^= 1
+	fmt.Println("as loaded:", loaded, "after a stray write:", stray.Check())
 	// Four goroutines at once: the library has no state.
 	var powers [4]uint32
 	var all sync.WaitGroup

@@ -27,6 +27,10 @@ def main() -> None:
         library.load(bytes(image), key)
     except vino_host.Refused as refusal:
         print("changed image refused:", refusal)
+    plugin = library.load(bytes.fromhex((folder / "count.hex").read_text()), key)
+    loaded = plugin.check()
+    plugin._loaded[50] ^= 1
+    print("as loaded:", loaded, "after a stray write:", plugin.check())
 
 
 if __name__ == "__main__":

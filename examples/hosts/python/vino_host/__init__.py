@@ -12,15 +12,8 @@ from typing import Callable, NamedTuple, Optional, Sequence
 
 SEGMENT = 4096
 BYTES_AT = 2048
+KEEP_AT = 40
 RETURNED, NOT_CALLABLE, WAITING, NO_MEMORY = 0, 3, 32, 14
-
-
-class _Instruction(ctypes.Structure):
-    _fields_ = [("op", c_uint8), ("a", c_uint8), ("b", c_uint8), ("c", c_uint8), ("imm", c_uint32)]
-
-
-class _Plugin(ctypes.Structure):
-    _fields_ = [("size", c_uint32), ("body_size", c_uint32), ("keep", c_uint32), ("code", _Instruction * 1024), ("body", c_uint8 * 4096)]
 
 
 class _Keys(ctypes.Structure):
@@ -88,10 +81,10 @@ class Table:
 class Plugin:
     """A loaded plug-in with a segment of its own."""
 
-    def __init__(self, library: ctypes.CDLL, struct: _Plugin) -> None:
+    def __init__(self, library: ctypes.CDLL, loaded: ctypes.Array[c_uint8]) -> None:
         """Made by `Library.load`."""
         self._library = library
-        self._struct = struct
+        self._loaded = loaded
         self._call = _Call()
         self._segment = (c_uint8 * SEGMENT)()
         self._called = False
@@ -106,21 +99,26 @@ class Plugin:
         host: Optional[Callable[[int, tuple[int, int, int, int]], Optional[int]]] = None,
     ) -> Answer:
         """Calls the plug-in. `host` answers ids 2 to 15 with a word, or with None, which refuses."""
-        fresh = 0 if self._struct.keep == 1 and self._called else 1
+        fresh = 0 if self._loaded[KEEP_AT] == 1 and self._called else 1
+        loaded, size = self._loaded, len(self._loaded)
         request = _Request(1, point, limit, fresh, *arguments)
         answer = _Answer()
         words = table._words
         data = (c_uint8 * max(1, len(fed)))(*fed)
-        self._library.vino_begin(self._struct, self._call, request, data, len(fed), self._segment, words, len(words), answer)
+        self._library.vino_begin(loaded, size, self._call, request, data, len(fed), self._segment, words, len(words), answer)
         while answer.kind == WAITING:
             word = host(answer.detail, (answer.r0, answer.r1, answer.r2, answer.r3)) if host else None
             how = NOT_CALLABLE if word is None else 0
-            self._library.vino_resume(self._struct, self._call, how, word or 0, self._segment, words, len(words), answer)
+            self._library.vino_resume(loaded, size, self._call, how, word or 0, self._segment, words, len(words), answer)
         given = b""
         if answer.kind == RETURNED:
             self._called = True
             given = bytes(self._segment[BYTES_AT : BYTES_AT + answer.given])
         return Answer(answer.kind, answer.detail, answer.steps, (answer.r0, answer.r1, answer.r2, answer.r3), given)
+
+    def check(self) -> bool:
+        """Whether the plug-in is still what was loaded."""
+        return self._library.vino_check(self._loaded, len(self._loaded)) == 0
 
 
 class Library:
@@ -129,25 +127,29 @@ class Library:
     def __init__(self, path: str) -> None:
         """Opens the shared library at a path."""
         self._library = ctypes.CDLL(path)
-        self._library.vino_load.argtypes = [POINTER(_Keys), POINTER(c_uint8), c_size_t, POINTER(_Plugin), POINTER(c_uint32)]
+        self._library.vino_load.argtypes = [
+            POINTER(_Keys), POINTER(c_uint8), c_size_t, POINTER(c_uint8), c_size_t, POINTER(c_uint32),
+        ]  # fmt: skip
+        self._library.vino_check.argtypes = [POINTER(c_uint8), c_size_t]
         self._library.vino_begin.argtypes = [
-            POINTER(_Plugin), POINTER(_Call), POINTER(_Request), POINTER(c_uint8), c_size_t,
+            POINTER(c_uint8), c_size_t, POINTER(_Call), POINTER(_Request), POINTER(c_uint8), c_size_t,
             POINTER(c_uint8), POINTER(_Word), c_size_t, POINTER(_Answer),
         ]  # fmt: skip
         self._library.vino_resume.argtypes = [
-            POINTER(_Plugin), POINTER(_Call), c_uint32, c_uint32, POINTER(c_uint8), POINTER(_Word), c_size_t, POINTER(_Answer),
+            POINTER(c_uint8), c_size_t, POINTER(_Call), c_uint32, c_uint32,
+            POINTER(c_uint8), POINTER(_Word), c_size_t, POINTER(_Answer),
         ]  # fmt: skip
-        for function in ("vino_load", "vino_begin", "vino_resume"):
+        for function in ("vino_load", "vino_check", "vino_begin", "vino_resume"):
             getattr(self._library, function).restype = c_uint32
 
     def load(self, image: bytes, first: bytes, second: Optional[bytes] = None) -> Plugin:
         """Loads a sealed image under one key of 32 bytes, or two. Raises `Refused`, or `MemoryError`."""
         keys = _Keys(2 if second else 1, (c_uint8 * 32)(*first), (c_uint8 * 32)(*(second or bytes(32))))
         data = (c_uint8 * max(1, len(image)))(*image)
-        struct, place = _Plugin(), c_uint32()
-        code = self._library.vino_load(keys, data, len(image), struct, place)
+        loaded, place = (c_uint8 * max(1, len(image)))(), c_uint32()  # an image never needs more bytes than it has
+        code = self._library.vino_load(keys, data, len(image), loaded, len(loaded), place)
         if code == NO_MEMORY:
             raise MemoryError
         if code:
             raise Refused(code, place.value)
-        return Plugin(self._library, struct)
+        return Plugin(self._library, loaded)

@@ -3,15 +3,6 @@
 //! usage: host FOLDER
 
 #[repr(C)]
-struct Plugin {
-    size: u32,
-    body_size: u32,
-    keep: u32,
-    code: [[u32; 2]; 1024],
-    body: [u8; 4096],
-}
-
-#[repr(C)]
 struct Keys {
     count: u32,
     first: [u8; 32],
@@ -55,9 +46,11 @@ struct Answer {
 }
 
 unsafe extern "C" {
-    fn vino_load(keys: *const Keys, image: *const u8, length: usize, plugin: *mut Plugin, place: *mut u32) -> u32;
+    fn vino_load(keys: *const Keys, image: *const u8, length: usize, plugin: *mut u8, room: usize, place: *mut u32) -> u32;
+    fn vino_check(plugin: *const u8, plugin_length: usize) -> u32;
     fn vino_begin(
-        plugin: *const Plugin,
+        plugin: *const u8,
+        plugin_length: usize,
         call: *mut Call,
         request: *const Request,
         bytes: *const u8,
@@ -68,7 +61,8 @@ unsafe extern "C" {
         answer: *mut Answer,
     ) -> u32;
     fn vino_resume(
-        plugin: *const Plugin,
+        plugin: *const u8,
+        plugin_length: usize,
         call: *mut Call,
         how: u32,
         word: u32,
@@ -81,7 +75,7 @@ unsafe extern "C" {
 
 /// A loaded plug-in, a segment, and a call. The references of its methods are what the library asks of pointers.
 struct Sandbox {
-    plugin: Box<Plugin>,
+    plugin: Vec<u8>,
     call: Box<Call>,
     segment: Box<[u8; 4096]>,
 }
@@ -90,12 +84,13 @@ impl Sandbox {
     /// Loads an image, or gives the number of its refusal.
     fn load(keys: &Keys, image: &[u8]) -> Result<Sandbox, u32> {
         let mut made = Sandbox {
-            plugin: Box::new(Plugin { size: 0, body_size: 0, keep: 0, code: [[0; 2]; 1024], body: [0; 4096] }),
+            plugin: vec![0; image.len()], // an image never needs more bytes than it has
             call: Box::new(Call { heads: [0; 7], machine: [0; 17], count: 0, records: [[0; 4]; 64], segment: [0; 4096] }),
             segment: Box::new([0; 4096]),
         };
         let mut place = 0;
-        match unsafe { vino_load(keys, image.as_ptr(), image.len(), &mut *made.plugin, &mut place) } {
+        let room = made.plugin.len();
+        match unsafe { vino_load(keys, image.as_ptr(), image.len(), made.plugin.as_mut_ptr(), room, &mut place) } {
             0 => Ok(made),
             refusal => Err(refusal),
         }
@@ -103,16 +98,22 @@ impl Sandbox {
 
     /// Calls the plug-in; `host` answers ids 2 to 15, and refuses with `None`.
     fn call(&mut self, request: &Request, table: &mut [Word], host: impl Fn(u32) -> Option<u32>) -> Answer {
-        let (plugin, call, segment) = (&*self.plugin, &mut *self.call, &mut *self.segment);
+        let (plugin, size) = (self.plugin.as_ptr(), self.plugin.len());
+        let (call, segment) = (&mut *self.call, &mut *self.segment);
         let (words, length) = (table.as_mut_ptr(), table.len());
         let mut answer = Answer::default();
-        unsafe { vino_begin(plugin, call, request, [0].as_ptr(), 0, segment, words, length, &mut answer) };
+        unsafe { vino_begin(plugin, size, call, request, [0].as_ptr(), 0, segment, words, length, &mut answer) };
         while answer.kind == 32 {
             let word = host(answer.detail);
             let how = if word.is_some() { 0 } else { 3 };
-            unsafe { vino_resume(plugin, call, how, word.unwrap_or(0), segment, words, length, &mut answer) };
+            unsafe { vino_resume(plugin, size, call, how, word.unwrap_or(0), segment, words, length, &mut answer) };
         }
         answer
+    }
+
+    /// Whether the plug-in is still what was loaded.
+    fn check(&self) -> bool {
+        unsafe { vino_check(self.plugin.as_ptr(), self.plugin.len()) == 0 }
     }
 }
 
@@ -132,6 +133,10 @@ fn main() {
         let answer = plugin.call(&request, &mut table, |id| (id == 2).then_some(9));
         println!("{name} {answer:?} {:?}", table.map(|word| word.value));
     }
+    let mut plugin = Sandbox::load(&keys, &image(&folder, "count")).expect("an image that loads");
+    let loaded = plugin.check();
+    plugin.plugin[50] ^= 1;
+    println!("as loaded: {loaded}; after a stray write: {}", plugin.check());
     // Four threads at once: the library has no state.
     let threads: Vec<_> = (0..4u32)
         .map(|number| {

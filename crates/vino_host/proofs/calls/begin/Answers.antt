@@ -1,6 +1,7 @@
 use Rattle.std.proofs.Common.{◌≡◌, [], ◌∙◌, refl}
 use Rattle.vino_host.specs.HostRuns.{state, host_run}
-use Rattle.vino_host.specs.Calls.{found_in, call_says, begun, code_of, first_frame}
+use Rattle.vino_host.specs.Plugins.{code_of}
+use Rattle.vino_host.specs.Calls.{found_in, call_says, begun, first_frame}
 use Rattle.vino_host.proofs.Beginnings.{begins, segment_back, table_back, table_kept}
 use Rattle.vino_host.proofs.Stopping.{steps_most}
 use Rattle.vino_host.proofs.calls.begin.Goals as goal

@@ -3,7 +3,8 @@ use Rattle.graft_code.specs.Machine as model
 use Rattle.vino_host.specs.HostMachine.{machine_of}
 use Rattle.vino_host.specs.HostRuns.{State, state, Ended, host_run, with_r0}
 use Rattle.vino_host.specs.Tables.{records_of}
-use Rattle.vino_host.specs.Calls.{found, found_in, code_of, frame_of, pause_in}
+use Rattle.vino_host.specs.Plugins.{code_of}
+use Rattle.vino_host.specs.Calls.{found, found_in, frame_of, pause_in}
 use Rattle.vino_host.proofs.Beginnings.{resumes, segment_back, table_back, table_kept}
 use Rattle.vino_host.proofs.Stopping.{steps_most}
 use Rattle.vino_host.proofs.calls.resume.Goals as goal

@@ -7,7 +7,7 @@ use Rattle.vino_host.specs.declared.Reply.{Reply}
 use Rattle.vino_host.specs.declared.Stop.TheVariants as stop
 use Rattle.vino_host.specs.declared.Stopped.{Stopped}
 use Rattle.vino_host.specs.Codes.{DIVIDED, TRAPPED, BROKEN}
-use Rattle.vino_host.specs.HostMachine.{machine_of, done_of, goes_on}
+use Rattle.vino_host.specs.HostMachine.{code_in, machine_of, done_of, goes_on}
 use Rattle.vino_host.specs.HostRuns.{state, ended, host_run, replied, Answered, with_r0}
 use Rattle.vino_host.specs.Tables.{records_of}
 use Rattle.vino_host.proofs.Turns.{turn, turn_called, no_turn}
@@ -16,7 +16,7 @@ use Rattle.vino_host.proofs.running.run.Goals as goal
 pub turns-preserved-in-Went : goal.turns-preserved-in-Went
 turns-preserved-in-Went c =
     let k = machine_of c.step.new.self c.step.new.segment in
-    turn c.args.number c.args.code.now c.turns.left
+    turn c.args.number (code_in c.args.code.now) c.turns.left
     (state (machine_of c.turns.machine c.turns.segment) c.turns.table (records_of c.turns.log))
     (Done.Went k) _ c.turns-test.true
     (c.step.ensures.done ∙ ap (λ (o : Outcome). done_of o k) c.in-Went.is) c.turns.invariant
@@ -26,9 +26,10 @@ turns-preserved c =
     let k = machine_of c.step.new.self c.step.new.segment in
     let table = c.answer.new.table in
     let records = records_of c.answer.new.log in
-    ap (λ (m : model.Machine). host_run c.args.number c.args.code.now (c.turns.left - 1) (state m table records))
+    ap (λ (m : model.Machine). host_run c.args.number (code_in c.args.code.now) (c.turns.left - 1)
+    (state m table records))
     (c.set_r0.ensures c.step.new.segment)
-    ∙ turn_called c.args.number c.args.code.now c.turns.left c.in-Called.id
+    ∙ turn_called c.args.number (code_in c.args.code.now) c.turns.left c.in-Called.id
     (state (machine_of c.turns.machine c.turns.segment) c.turns.table (records_of c.turns.log)) k
     (Answered.Goes (state (with_r0 c.in-Gave.x k) table records)) _ c.turns-test.true
     (c.step.ensures.done ∙ ap (λ (o : Outcome). done_of o k) c.in-Called.is)
@@ -42,7 +43,7 @@ returns-in-Stopped c =
     let records = records_of c.answer.new.log in
     ap (λ (s : Stopped). ended s.stop s.left (state (machine_of s.machine c.step.new.segment) table records))
     c.stopped.ensures
-    ∙ turn_called c.args.number c.args.code.now c.turns.left c.in-Called.id
+    ∙ turn_called c.args.number (code_in c.args.code.now) c.turns.left c.in-Called.id
     (state (machine_of c.turns.machine c.turns.segment) c.turns.table (records_of c.turns.log)) k
     (Answered.Stops c.in-Stopped.stop (state k table records)) _ c.turns-test.true
     (c.step.ensures.done ∙ ap (λ (o : Outcome). done_of o k) c.in-Called.is)
@@ -62,7 +63,7 @@ returns-in-Returned c =
     (c.step.ensures.ended stops)
     ∙ ap (λ (x : List ℕ). ended (stop.Returns) (c.turns.left - 1) (state (machine_of c.turns.machine x) table records))
     (c.step.ensures.memory stops)
-    ∙ turn c.args.number c.args.code.now c.turns.left
+    ∙ turn c.args.number (code_in c.args.code.now) c.turns.left
     (state (machine_of c.turns.machine c.turns.segment) table records) (Done.Returned) _ c.turns-test.true
     (c.step.ensures.done ∙ ap (λ (o : Outcome). done_of o k) c.in-Returned.is) c.turns.invariant
 
@@ -80,7 +81,7 @@ returns-in-DividedByZero c =
     ∙ ap (λ (x : List ℕ). ended (stop.Drops DIVIDED 0) (c.turns.left - 1)
     (state (machine_of c.turns.machine x) table records))
     (c.step.ensures.memory stops)
-    ∙ turn c.args.number c.args.code.now c.turns.left
+    ∙ turn c.args.number (code_in c.args.code.now) c.turns.left
     (state (machine_of c.turns.machine c.turns.segment) table records) (Done.DividedByZero) _ c.turns-test.true
     (c.step.ensures.done ∙ ap (λ (o : Outcome). done_of o k) c.in-DividedByZero.is) c.turns.invariant
 
@@ -98,7 +99,7 @@ returns-in-Trapped c =
     ∙ ap (λ (x : List ℕ). ended (stop.Drops TRAPPED c.in-Trapped.code) (c.turns.left - 1)
     (state (machine_of c.turns.machine x) table records))
     (c.step.ensures.memory stops)
-    ∙ turn c.args.number c.args.code.now c.turns.left
+    ∙ turn c.args.number (code_in c.args.code.now) c.turns.left
     (state (machine_of c.turns.machine c.turns.segment) table records)
     (Done.Trapped c.in-Trapped.code) _ c.turns-test.true
     (c.step.ensures.done ∙ ap (λ (o : Outcome). done_of o k) c.in-Trapped.is) c.turns.invariant
@@ -117,7 +118,7 @@ returns-in-PastEnd c =
     ∙ ap (λ (x : List ℕ). ended (stop.Drops BROKEN 0) (c.turns.left - 1)
     (state (machine_of c.turns.machine x) table records))
     (c.step.ensures.memory stops)
-    ∙ turn c.args.number c.args.code.now c.turns.left
+    ∙ turn c.args.number (code_in c.args.code.now) c.turns.left
     (state (machine_of c.turns.machine c.turns.segment) table records) (Done.PastEnd) _ c.turns-test.true
     (c.step.ensures.done ∙ ap (λ (o : Outcome). done_of o k) c.in-PastEnd.is) c.turns.invariant
 
@@ -126,6 +127,6 @@ returns c =
     ap (λ (s : Stopped). ended s.stop s.left
     (state (machine_of s.machine c.turns.segment) c.turns.table (records_of c.turns.log)))
     c.stopped-2.ensures
-    ∙ no_turn c.args.number c.args.code.now c.turns.left
+    ∙ no_turn c.args.number (code_in c.args.code.now) c.turns.left
     (state (machine_of c.turns.machine c.turns.segment) c.turns.table (records_of c.turns.log)) _
     (omega (arith, c.turns-test.false)) c.turns.invariant
