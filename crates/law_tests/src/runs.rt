@@ -17,4 +17,6 @@ fn the_system_calls_have_the_laws(_rt: HostRuntime) {
     streams::runs_keep_streams();
     waits::waits_end::<PlainRules>();
     waits::runs_end_waits();
+    waits::waits_end_by_calls::<PlainRules>();
+    waits::runs_end_waits_by_calls();
 }

@@ -11,4 +11,5 @@ pub mod SyncEndLemmas
 pub mod StreamRunLemmas
 pub mod WorldLemmas
 pub mod WaitLemmas
+pub mod WaitCallLemmas
 mod NeededPremises

@@ -275,6 +275,23 @@ module _ (m : Meaning) (laws : Laws m) (know : Known m) (stability : Stability m
       used_by (inl none) more = quiet n (suc number) (tick_event m number r) (quiet_tick number r none)
       used_by (inr less) more = more less
 
+  -- where all calls can lose at most so much, one more than that times the longest wait is enough
+  pub waits_end_within : (r : Run) (n most number : ℕ) → IsSoundKernel m r.kernel →
+      HasWholeBlocks r.kernel.world r.blocks → IsAtRest m r.kernel → HasPatience r.kernel most →
+      total m r.kernel ≤ n → (ticks_on m (suc n * suc most) number r).kernel.order ≡ []
+  waits_end_within r n most number sound whole rests patient few =
+      ticks_end_waiting most (suc n * suc most) number r sound whole rests patient
+      (within (total m r.kernel) (waited most r.kernel.order) few
+      (waited_most most r.kernel.order))
+    where
+      below : (a : ℕ) → a ≤ n → a < suc n
+      below a h = omega (arith, h)
+
+      within : (a w : ℕ) → a ≤ n → w ≤ most → a * suc most + w ≤ suc n * suc most
+      within a w h k =
+          let row = row_fits a (suc most) (suc n) (suc most) (below a h) (no_more (suc most)) in
+          omega (arith, k, row)
+
   waits_end_by : (r : Run) (most number : ℕ) → IsSoundKernel m r.kernel → HasWholeBlocks r.kernel.world r.blocks →
       IsAtRest m r.kernel → HasPatience r.kernel most → (ticks_on m (289 * suc most) number r).kernel.order ≡ []
   waits_end_by r most number sound whole rests patient =

@@ -9,6 +9,7 @@ use Rattle.script_model.specs.Meaning.{Meaning}
 use Rattle.script_model.specs.Session.{Build}
 use Rattle.script_model.specs.Sound.{IsSoundKernel, IsAtRest, HasWholeBlocks}
 use Rattle.session_laws.specs.Sessions.{run_of, IsRunnable}
+use Rattle.session_laws.specs.Slices.{calls_in_flight}
 
 -- so many ticks, one event after another, the first of this number
 abbrev pub ticks_on : Meaning → (count number : ℕ) → Run → Run
@@ -28,6 +29,14 @@ WaitsEnd m =
     HasWholeBlocks r.kernel.world r.blocks → IsAtRest m r.kernel → HasPatience r.kernel most →
     (ticks_on m (289 * suc most) number r).kernel.order ≡ []
 
+-- Where fewer calls are in flight, fewer ticks are enough: 1 + 18 c times the longest patience and
+-- one more for c calls. Each can lose at most 15 pieces and three levels.
+abbrev pub WaitsEndByCalls : Meaning → Type 0
+WaitsEndByCalls m =
+    (r : Run) (most number : ℕ) → Laws m → IsSoundKernel m r.kernel →
+    HasWholeBlocks r.kernel.world r.blocks → IsAtRest m r.kernel → HasPatience r.kernel most →
+    (ticks_on m (suc (18 * calls_in_flight r.kernel) * suc most) number r).kernel.order ≡ []
+
 -- and so it is from each kernel of a run
 abbrev pub RunsEndWaits : Type 0
 RunsEndWaits =
@@ -35,6 +44,19 @@ RunsEndWaits =
     (k : Kernel) (most number : ℕ) (io : List Bool) →
     IsRunnable b d → (run_of b keys d texts ios).kernel ≡ Some k → HasPatience k most →
     (ticks_on b.meaning (289 * suc most) number (record {
+      kernel = k;
+      blocks = (run_of b keys d texts ios).blocks;
+      notes = [];
+      io = io;
+    })).kernel.order ≡ []
+
+-- which end the sooner, too, the fewer calls are in flight
+abbrev pub RunsEndWaitsByCalls : Type 0
+RunsEndWaitsByCalls =
+    (b : Build) (keys : Keys) (d : Disk) (texts : List (List ℕ)) (ios : List (List Bool))
+    (k : Kernel) (most number : ℕ) (io : List Bool) →
+    IsRunnable b d → (run_of b keys d texts ios).kernel ≡ Some k → HasPatience k most →
+    (ticks_on b.meaning (suc (18 * calls_in_flight k) * suc most) number (record {
       kernel = k;
       blocks = (run_of b keys d texts ios).blocks;
       notes = [];

@@ -1,0 +1,4 @@
+pub mod PieceLemmas
+pub mod StepLemmas
+pub mod EventLemmas
+pub mod OutcomeLemmas
