@@ -69,4 +69,7 @@ function makeTimeline(trace) {
 function showTimeline(at, count) {
   byId("cursor").setAttribute("x", at);
   byId("cursor").setAttribute("width", Math.max(1, count / 300));
+  // On a narrow screen the timeline is wider than that, and scrolls to the moment.
+  const box = byId("timeline"), wide = box.scrollWidth;
+  if (wide > box.clientWidth) box.scrollLeft = (at + .5) / count * wide - box.clientWidth / 2;
 }

@@ -3,6 +3,7 @@
 #![tactic(auto)]
 
 mod code;
+mod compare;
 mod outside;
 mod own_lines;
 mod seats;

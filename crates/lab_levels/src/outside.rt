@@ -5,6 +5,7 @@ ghost use Rattle.std.specs.Prelude.{take, drop, slice_range, OnOk};
 ghost use Rattle.lab_levels.specs.Outside as spec;
 ghost use Rattle.lab_levels.specs.Places as places;
 
+use crate::compare::has_bytes;
 use crate::view::LevelRow;
 use ram_space::{RAM_BYTES, Ram};
 use script_model::NoMemory;
@@ -26,7 +27,7 @@ fn same_between(before: &[u8], after: &Ram, from: usize, to: usize) -> bool
     requires whole { length before.now ≡ RAM_BYTES }
     ensures { result ≡ spec.same_between from to before.now after.now }
 {
-    after.has(from as u32, &before[from..to])
+    has_bytes(after, from as u32, &before[from..to])
 }
 
 /// Whether two memories are the same before one place, and from another place on.

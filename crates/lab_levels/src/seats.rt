@@ -7,6 +7,7 @@ ghost use Rattle.std.specs.Prelude.{◌≡◌, ◌<◌, ◌+◌, ◌*◌, ◌^�
 ghost use Rattle.lab_levels.specs.Places as spec;
 ghost use Rattle.lab_levels.specs.Seats as seats;
 
+use crate::compare::are_same;
 use crate::own_lines::count_of;
 use crate::view::{LevelRow, PROCESSES, REGISTERS, View};
 use gm_isa::{Instr, Op};
@@ -260,7 +261,7 @@ impl Seats {
     fn has_kept(&self, p: u8, depth: u8, segment: &[u8]) -> bool {
         let from = 4096 * seat_number(p, depth);
         let to = from.saturating_add(segment.len());
-        to <= self.bytes.len() && &self.bytes[from..to] == segment
+        to <= self.bytes.len() && are_same(&self.bytes[from..to], segment)
     }
 
     /// Appends the bytes of an innermost level's segment that changed, at most 16 of them, and

@@ -109,3 +109,6 @@ ends_in_order last from ordered pieces o = rw (sym (append-nil (writers last ord
 pub ends_kept : (last from : ℕ) (ordered pieces : List Piece) → Ordered last from ordered pieces [] →
     AreInOrder 1 (writers last pieces) → writers last ordered ≡ writers last pieces
 ends_kept last from ordered pieces o h = (o.kept (rw (append-nil pieces) h)).0
+
+-- what pieces in order need
+pub ruleset ordering = (none_yet, one_more_of, all_ordered, ends_in_order, ends_kept)

@@ -145,7 +145,7 @@ pub(crate) fn writer(last: usize, piece: &Piece) -> usize
     if piece.owner == 0 { last } else { piece.owner }
 }
 
-#[tactic(auto, using(crate::proofs::Ordered::none_yet, crate::proofs::Ordered::one_more_of, crate::proofs::Ordered::all_ordered, crate::proofs::Ordered::ends_in_order, crate::proofs::Ordered::ends_kept))]
+#[tactic(auto, using(crate::proofs::Ordered::ordering))]
 /// The same pieces, none of which belongs to a line before that of the piece before it. `last` is
 /// the line to which the end of the run belongs.
 pub fn in_order<'a>(

@@ -3,7 +3,8 @@
 #![tactic(auto)]
 
 ghost use Rattle.std.specs.Prelude.{◌≡◌, ◌≤◌, length, Ok, IfOk, IfErr};
-ghost use Rattle.lab_reader.specs.Faults.{Refuses};
+ghost use Rattle.lab_reader.specs.Faults.{ReadsAs, Refuses};
+ghost use Rattle.lab_reader.specs.Lab.{lab_of};
 ghost use Rattle.lab_lowering.specs.Lowering as spec;
 
 mod images;
@@ -55,8 +56,16 @@ fn lower_text(alloc: Global, text: &[u8]) -> Result<Lowered, LabFault>
     ensures ok { IfOk result (λ l. spec.LowersText text.now l.lab l.images.items l.script.items) }
     ensures err { IfErr result (λ e. spec.HasTextCause e text.now) }
 {
+    lower_lab(alloc, read_spaced(alloc, text)?)
+}
+
+/// What a text says. Its copy with spaces for tabs is gone when the script is made.
+fn read_spaced(alloc: Global, text: &[u8]) -> Result<Lab, LabFault>
+    requires { length text.now ≤ 16_777_216 }
+    ensures { ReadsAs result (lab_of text.now) }
+{
     let spaced = with_spaces(alloc, text)?;
-    lower_lab(alloc, read_lab(alloc, spaced.as_slice())?)
+    read_lab(alloc, spaced.as_slice())
 }
 
 /// The same of what a file says.

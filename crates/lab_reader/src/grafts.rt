@@ -8,6 +8,7 @@ ghost use Rattle.std.specs.List.{slice_split};
 
 use crate::faults::{LabFault, LabKind};
 use crate::graft::{Graft, Notation};
+use crate::table::GraftTable;
 use crate::text::{Text, text_of};
 use crate::words::{add_plain_word, add_word, is_hex, next_word};
 use script_model::NoMemory;
@@ -182,14 +183,14 @@ pub fn place_of(name: &[u8], grafts: &[Graft]) -> Option<usize>
 }
 
 /// What keeps a name from being that of a new graft.
-fn name_fault(name: &[u8], grafts: &[Graft]) -> Option<LabKind>
+fn name_fault(name: &[u8], grafts: &GraftTable) -> Option<LabKind>
     ensures { result ≡ spec.name_fault name.now grafts.now }
 {
     if !is_label(name) {
         Some(LabKind::BadName)
     } else if is_hex(name) {
         Some(LabKind::NameIsHex)
-    } else if place_of(name, grafts).is_some() {
+    } else if grafts.place_of(name).is_some() {
         Some(LabKind::GraftTwice)
     } else {
         None
@@ -244,7 +245,7 @@ fn begun_by(
     name: &[u8],
     notation: Notation,
     keep: bool,
-    grafts: &[Graft],
+    grafts: &GraftTable,
 ) -> Result<Graft, LabFault>
     ensures { ReadsAs result (spec.begun_by n name.now notation keep
         (spec.name_fault name.now grafts.now)) }
@@ -259,7 +260,7 @@ fn begun_by(
 pub fn begun_of(
     alloc: Global,
     n: usize,
-    grafts: &[Graft],
+    grafts: &GraftTable,
     mut words: Parts,
 ) -> Result<Graft, LabFault>
     ensures { ReadsAs result (spec.begun_of n grafts.now words.entry) }

@@ -3,6 +3,7 @@
 use crate::graft::Graft;
 use crate::settings::Settings;
 use crate::sheet::Sheet;
+use crate::table::GraftTable;
 use std::marker::Model;
 
 /// What a lab file says: its settings, its grafts, and its lines for the script. Inside a graft the
@@ -10,7 +11,7 @@ use std::marker::Model;
 #[derive(Drop)]
 pub struct Lab {
     pub(crate) settings: Settings,
-    pub(crate) grafts: Vec<Graft>,
+    pub(crate) grafts: GraftTable,
     pub(crate) inside: bool,
     pub(crate) draft: Graft,
     pub(crate) sheet: Sheet,
@@ -23,7 +24,7 @@ impl Model for Lab {
 
     ghost view = { λ l. record {
       settings = l.settings;
-      grafts = l.grafts.items;
+      grafts = l.grafts;
       inside = l.inside;
       draft = l.draft;
       sheet = l.sheet;

@@ -10,6 +10,7 @@ mod reader;
 mod settings;
 mod sheet;
 mod sheets;
+mod table;
 mod text;
 mod words;
 

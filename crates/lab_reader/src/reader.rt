@@ -15,12 +15,13 @@ use crate::grafts::begun_of;
 use crate::lab::Lab;
 use crate::settings::Settings;
 use crate::sheet::Sheet;
+use crate::table::GraftTable;
 use crate::text::{Text, text_of};
 use crate::words::{code_of, is_code, is_left, left_of, wanted_of};
 use script_model::NoMemory;
 use std::alloc::Global;
 use std::mem;
-use text_words::{Parts, put};
+use text_words::Parts;
 
 impl Lab {
     /// Before the first line.
@@ -29,7 +30,7 @@ impl Lab {
     {
         Ok(Lab {
             settings: Settings::new(alloc)?,
-            grafts: Vec::new(alloc),
+            grafts: GraftTable::new(alloc),
             inside: false,
             draft: Graft::none(alloc),
             sheet: Sheet::new(alloc),
@@ -47,7 +48,7 @@ impl Lab {
     pub fn grafts(&self) -> &[Graft]
         ensures { result.now ≡ self.now.grafts }
     {
-        self.grafts.as_slice()
+        self.grafts.grafts()
     }
 
     /// The lines of the script and the wanted lines.
@@ -55,6 +56,13 @@ impl Lab {
         ensures { result.now ≡ self.now.sheet }
     {
         &self.sheet
+    }
+
+    /// Forgets the lines of the script and the wanted lines, where they aren't needed any more.
+    pub fn forget_lines(&mut self, alloc: Global)
+        ensures { self.new ≡ record self.old { sheet = sheet.first_sheet } }
+    {
+        self.sheet = Sheet::new(alloc);
     }
 
     /// The line says nothing in the script.
@@ -70,7 +78,7 @@ impl Lab {
         ensures { StepsAs result self.new (spec.begins_by self.old
             (grafts.begun_of n self.old.grafts words.entry)) }
     {
-        let graft = begun_of(alloc, n, self.grafts.as_slice(), words)?;
+        let graft = begun_of(alloc, n, &self.grafts, words)?;
         self.inside = true;
         self.draft = graft;
         Ok(self.blank(alloc)?)
@@ -117,8 +125,7 @@ impl Lab {
             words.entry) }
     {
         if first == b"image".as_slice() {
-            self.sheet
-                .add_image(alloc, n, self.grafts.as_slice(), text, words)
+            self.sheet.add_image(alloc, n, &self.grafts, text, words)
         } else if first == b"graft".as_slice() {
             self.begin_graft(alloc, n, words)
         } else if first == b"end".as_slice() {
@@ -167,7 +174,7 @@ impl Lab {
         }) }
     {
         let graft = mem::replace(&mut self.draft, Graft::none(alloc));
-        put(&mut self.grafts, graft)?;
+        self.grafts.add(alloc, graft)?;
         self.inside = false;
         Ok(())
     }

@@ -7,9 +7,8 @@ ghost use Rattle.lab_reader.specs.Faults.{StepsAs};
 ghost use Rattle.lab_reader.specs.Sheet as spec;
 
 use crate::faults::{LabFault, LabKind};
-use crate::graft::Graft;
-use crate::grafts::place_of;
 use crate::sheet::{Item, Sheet, Want};
+use crate::table::GraftTable;
 use crate::text::{Text, text_of};
 use crate::words::is_hex;
 use script_model::NoMemory;
@@ -178,7 +177,7 @@ impl Sheet {
         &mut self,
         alloc: Global,
         n: usize,
-        grafts: &[Graft],
+        grafts: &GraftTable,
         text: &[u8],
         mut words: Parts,
     ) -> Result<(), LabFault>
@@ -192,13 +191,13 @@ impl Sheet {
             return Ok(self.add_plain(alloc, n, text)?);
         };
         let Some(word) = words.next() else {
-            let graft = place_of(name, grafts);
+            let graft = grafts.place_of(name);
             return self.add_boxed(alloc, n, text, Asked { slot, name, graft });
         };
         if words.next().is_some() || word != b"raw".as_slice() {
             return Ok(self.add_plain(alloc, n, text)?);
         }
-        self.add_raw(n, slot, place_of(name, grafts))
+        self.add_raw(n, slot, grafts.place_of(name))
     }
 }
 
