@@ -1,2 +1,3 @@
-mod WantsOrder
+mod Grading
 mod Judging
+mod WantsOrder

@@ -1,1 +1,2 @@
+pub mod Grading
 pub mod Tested

@@ -3,6 +3,7 @@
 use crate::boxing;
 use crate::edge::{NO_MEMORY, write_out};
 use crate::explain::explain;
+use crate::grade::grade;
 use crate::help::{help, help_of, no_words, options_of, wrong_option, wrong_words};
 use crate::picture::picture;
 use crate::run::{Telling, run_files};
@@ -134,6 +135,7 @@ fn obey_command(rt: &HostRuntime, name: &str, words: &[String]) -> u8 {
         ("--version", []) => write_out(rt, b"lab 0.9.0\n", 0),
         ("help", [command]) => help_of(rt, command.as_str()),
         ("explain", _) => explain(rt, words),
+        ("grade", _) => grade(rt, words),
         ("picture", _) => picture(rt, words),
         ("trace", _) => trace(rt, words),
         _ => match read(rt.alloc(), words) {

@@ -22,7 +22,7 @@ pub struct Opened {
 }
 
 /// The bytes of the file of this name, or of the standard input for `-`.
-fn read_bytes(rt: &HostRuntime, path: &str) -> io::Result<Vec<u8>> {
+pub fn read_bytes(rt: &HostRuntime, path: &str) -> io::Result<Vec<u8>> {
     let mut bytes = Vec::new(rt.alloc());
     if path == "-" {
         let _ = rt.stdin().take(READ_BYTES).read_to_end(&mut bytes)?;

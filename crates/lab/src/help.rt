@@ -1,5 +1,7 @@
 //! `lab --help`, `lab help COMMAND`, and what is told of a wrong command line.
 
+ghost use Rattle.std.specs.Prelude.{◌≡◌};
+
 use crate::edge::{REFUSED, write_error, write_out};
 
 /// What stands above the commands.
@@ -18,6 +20,13 @@ const RUN: &[u8] = b"lab run FILE.. [--plain] [--raw-heads] [--disk PATH]
 
 const TEST: &[u8] = b"lab test FILE..
     the wanted lines of the files are compared with those that are written
+";
+
+const GRADE: &[u8] = b"lab grade TASK SUBMISSION.. [--tap | --json]
+    the tests of a task are run behind the grafts of each submission, which has
+    grafts alone; docs/GRADE.md says how a task is written
+    --tap        verdicts as TAP 14
+    --json       a JSON object for each test and each submission
 ";
 
 const SCRIPT: &[u8] = b"lab script FILE [--key]
@@ -72,6 +81,7 @@ fn said_of(command: &str) -> Option<&'static [u8]> {
     match command {
         "run" => Some(RUN),
         "test" => Some(TEST),
+        "grade" => Some(GRADE),
         "script" => Some(SCRIPT),
         "box" => Some(BOX),
         "watch" => Some(WATCH),
@@ -92,6 +102,7 @@ pub fn options_of(command: &str) -> &'static [&'static str] {
     match command {
         "run" => ["--plain", "--raw-heads", "--disk"].as_slice(),
         "script" => ["--key"].as_slice(),
+        "grade" => ["--tap", "--json"].as_slice(),
         "picture" | "trace" => ["--from", "--to"].as_slice(),
         "explain" => ["--all"].as_slice(),
         _ => NO_OPTIONS,
@@ -102,7 +113,7 @@ pub fn options_of(command: &str) -> &'static [&'static str] {
 pub fn help(rt: &HostRuntime) -> u8 {
     let mut status = 0;
     for part in [
-        HEAD, RUN, TEST, SCRIPT, BOX, WATCH, WHY, PICTURE, TRACE, EXPLAIN, HELP, FOOT,
+        HEAD, RUN, TEST, GRADE, SCRIPT, BOX, WATCH, WHY, PICTURE, TRACE, EXPLAIN, HELP, FOOT,
     ] {
         if status == 0 {
             status = write_out(rt, part, 0);
@@ -126,7 +137,9 @@ pub fn no_words(rt: &HostRuntime) -> u8 {
 }
 
 /// Tells that there is no command of this name: the status.
-fn no_command(rt: &HostRuntime, name: &str) -> u8 {
+fn no_command(rt: &HostRuntime, name: &str) -> u8
+    ensures { result ≡ 2 }
+{
     write_error(rt, b"lab: there is no command '");
     write_error(rt, name.as_bytes());
     write_error(rt, b"'; `lab --help` lists them\n");
@@ -148,7 +161,9 @@ pub fn wrong_option(rt: &HostRuntime, name: &str, option: &str) -> u8 {
 
 /// Tells what a command takes, since it doesn't take the words that stand behind it; or that there
 /// is no such command: the status.
-pub fn wrong_words(rt: &HostRuntime, name: &str) -> u8 {
+pub fn wrong_words(rt: &HostRuntime, name: &str) -> u8
+    ensures { result ≡ 2 }
+{
     match said_of(name) {
         Some(said) => {
             write_error(rt, b"lab: these words aren't what the command takes:\n");

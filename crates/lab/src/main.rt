@@ -7,6 +7,7 @@ mod command;
 mod edge;
 mod explain;
 mod files;
+mod grade;
 mod help;
 mod picture;
 mod run;

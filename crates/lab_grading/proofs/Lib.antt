@@ -1,0 +1,3 @@
+mod Judging
+mod Lists
+pub mod Passing

@@ -1,0 +1,4 @@
+pub mod Faults
+pub mod Submission
+pub mod SubmissionFaults
+pub mod Task
