@@ -209,6 +209,7 @@ fn drawn(
     let chosen = admitted(opened.lowered.script.as_slice(), asked)?;
     let title = title_of(alloc, path, opened.text.as_slice())?;
     let named = named_lines(alloc, &opened.lowered.lab)?;
+    opened.lowered.lab.forget_lines(alloc);
     let ran = run_lab(rt, &opened.lowered, None)?;
     let status = status_of(&ran);
     if status == REFUSED {
@@ -216,6 +217,7 @@ fn drawn(
     }
     if opened.lowered.lab.settings().disk().is_none() {
         drop(ran);
+        opened.text = Vec::new(alloc);
         return drawn_slowly(rt, &mut opened.lowered, &named, chosen, &title, status);
     }
     let script = opened.lowered.script.as_slice();
