@@ -46,6 +46,7 @@ pub record IsAnswered (id : ℕ) (s : State) (a : Answered) : Type 0 where
   pub goes : (q : State) → a ≡ Goes q → with_answer id (q.machine.regs 0, q.machine.regs 1) s.machine ≡ q.machine
   pub halts : (why : Stop) (q : State) → a ≡ Stops why q → halt_of why ≡ Some (Unanswered id)
   pub stays : (why : Stop) (q : State) → a ≡ Stops why q → why ≡ stop.Returns → ⊥
+  pub here : (why : Stop) (q : State) → a ≡ Stops why q → q ≡ s
 
 shown : (id x : ℕ) (m : Machine) (t : Bool) → (id == 13) ≡ t → t ≡ false →
     with_answer id ((with_r0 x m).regs 0, (with_r0 x m).regs 1) m ≡ with_r0 x m
@@ -75,6 +76,7 @@ is_answered number id s = by_id (nat_le id 1) (nat_le id 15) refl
               ∙ shown id x s.machine (id == 13) refl other ∙ ap (λ (p : State). p.machine) same;
           halts = λ why q h. cc;
           stays = λ why q h e. cc;
+          here = λ why q h. cc;
         }
     by_serves (Refuses cause) e low =
         let is : halt_by cause id ≡ Some (Unanswered id) =
@@ -83,6 +85,7 @@ is_answered number id s = by_id (nat_le id 1) (nat_le id 15) refl
           goes = λ q h. cc;
           halts = λ why q h. let same : stop.Drops cause id ≡ why = cc in ap (λ (w : Stop). halt_of w) (sym same) ∙ is;
           stays = λ why q h e. let same : stop.Drops cause id ≡ why = cc in cc;
+          here = λ why q h. cc;
         }
 
     stopped : (x : Stop) → halt_of x ≡ Some (Unanswered id) → (x ≡ stop.Returns → ⊥) → IsAnswered id s (Stops x s)
@@ -91,6 +94,7 @@ is_answered number id s = by_id (nat_le id 1) (nat_le id 15) refl
           goes = λ q e. cc;
           halts = λ why q e. let same : x ≡ why = cc in ap (λ (w : Stop). halt_of w) (sym same) ∙ h;
           stays = λ why q e k. let same : x ≡ why = cc in g (same ∙ k);
+          here = λ why q e. cc;
         }
 
     by_id : (a b : Bool) → nat_le id 1 ≡ a →

@@ -1,17 +1,21 @@
 -- A call of a plug-in whose code was made of raw code answers as the raw code ends.
 use Rattle.std.proofs.Common.{◌≡◌, ℕ, ◌==◌, Bool, true, false, cond, [], ◌∷◌}
-use Rattle.std.proofs.Common.{Option, None, Some, refl, sym, ap, ◌∙◌}
+use Rattle.std.proofs.Common.{Option, None, Some, refl, sym, ap, subst, ◌∙◌}
 use Rattle.std.proofs.lemmas.Bool.{eqb-true}
-use Rattle.graft_code.specs.Runs.{CodeRun, Halt, Unanswered, AtReturn, AtDivision, AtTrap, Astray}
+use Rattle.graft_code.specs.Machine.{segment_base}
+use Rattle.graft_code.specs.Runs.{CodeRun, first_run, raw_run, Halt, Unanswered, AtReturn, AtDivision, AtTrap, Astray}
 use Rattle.vino_host.specs.declared.Stop.{Stop}
 use Rattle.vino_host.specs.declared.Stop.TheVariants.{Returns, Waits, Drops}
 use Rattle.vino_host.specs.Codes.{DIVIDED, TRAPPED, BAD_ANSWER, is_taken}
 use Rattle.vino_host.specs.Plugins.{code_of}
-use Rattle.vino_host.specs.Calls.{Frame, found, found_by, judged, first_frame, first_segment}
-use Rattle.vino_host.specs.HostRuns.{Ended, host_run}
+use Rattle.vino_host.specs.HostMachine.{by_place}
+use Rattle.vino_host.specs.Calls.{Frame, Found, found, found_by, judged, first_frame, first_segment}
+use Rattle.vino_host.specs.HostRuns.{Ended}
 use Rattle.host_laws.specs.RawAnswers.{halt_of}
 use Rattle.host_laws.specs.Boxed.{DoesWhatRawDid, BoxedPluginsAreRaw, ReturnsWhatRawDid, BoxedCallsAreRaw}
-use Rattle.host_laws.specs.Boxed.{first_state}
+use Rattle.host_laws.specs.Boxed.{IsFoundAsRaw, first_state}
+use Rattle.host_laws.specs.Talks.{host_talk, talk_answers}
+use Rattle.host_laws.proofs.Conversing.{conversed}
 
 -- ---- what the end of a run says of why it stopped
 
@@ -95,14 +99,19 @@ trapped f e (Drops cause detail) code g =
 -- ---- the law
 
 pub boxed_calls_are_raw : BoxedPluginsAreRaw → BoxedCallsAreRaw
-boxed_calls_are_raw law code plugin request fed segment table n halt made size ends most =
+boxed_calls_are_raw law code plugin request fed segment words table n halt made size ends most =
     let begins = first_segment plugin request fed segment in
     let args = request.r0 ∷ request.r1 ∷ request.r2 ∷ request.r3 ∷ [] in
     let f = first_frame request fed segment in
-    let e = host_run request.number (code_of plugin) request.limit (first_state args begins table) in
-    let does = law code (code_of plugin) request.number request.limit n args begins table halt made size ends most in
-    record {
+    let first = first_state args begins table in
+    let raw = raw_run code n (first_run (segment_base 0) (by_place begins) args
+    (talk_answers request.number (code_of plugin) words request.limit first)) in
+    let e = host_talk request.number (code_of plugin) words request.limit first in
+    let does = law code (code_of plugin) request.number request.limit n args begins words table halt made size ends
+    most in
+    subst (λ (x : Found). IsFoundAsRaw request fed raw x) (sym (conversed plugin request fed segment words table))
+    (record {
       returned = λ back takes. returned f e _ does back takes;
       divided = λ d. divided f e e.stop (sym does.ended ∙ d);
       trapped = λ c t. trapped f e e.stop c (sym does.ended ∙ t);
-    }
+    })

@@ -1,5 +1,6 @@
 -- A plug-in whose code was made of raw code does what the raw code does.
-use Rattle.std.proofs.Common.{◌≡◌, ℕ, zero, suc, ◌+◌, ◌-◌, ◌*◌, ◌<◌, ◌≤◌, Bool, true, false, List, [], ◌∷◌, length}
+use Rattle.std.proofs.Common.{◌≡◌, ℕ, zero, suc, ◌+◌, ◌-◌, ◌*◌, ◌<◌, ◌≤◌, Bool, true, false, List, [], ◌∷◌}
+use Rattle.std.proofs.Common.{length}
 use Rattle.std.proofs.Common.{Option, None, Some, refl, sym, ap, ◌∙◌, arith}
 use Rattle.std.specs.Prelude.{nat_le}
 use Rattle.std.proofs.lemmas.Bool.{leb-true, leb-false}
@@ -10,14 +11,17 @@ use Rattle.graft_code.specs.Machine.{Machine, Done, Places, first_machine, segme
 use Rattle.graft_code.specs.Runs.{CodeRun, Halt, Unanswered, run_by, run_step, raw_run, boxed_run, first_run}
 use Rattle.graft_code.specs.SandboxClaims.{Sandbox, Rewriting, HasComeAsFar}
 use Rattle.box_rewriter.specs.Laws.{RewrittenIsBoxed}
+use Rattle.vino_host.specs.declared.Stop.{Stop}
+use Rattle.vino_host.specs.declared.Stop.TheVariants as stop
 use Rattle.vino_host.specs.HostMachine.{by_place, host_step}
 use Rattle.vino_host.specs.HostRuns.{State, state, Ended, Answered, Goes, Stops, answered}
 use Rattle.vino_host.specs.HostRuns.{after_answer, after_done, host_run}
-use Rattle.host_laws.specs.RawAnswers.{answers_of, halt_of}
+use Rattle.host_laws.specs.RawAnswers.{halt_of}
+use Rattle.host_laws.specs.Talks.{host_talk, talk_answers, after_wait, with_word}
 use Rattle.host_laws.specs.Claims.{IsRawRun}
 use Rattle.host_laws.specs.Boxed.{BoxedPluginsAreRaw, first_state}
 use Rattle.host_laws.proofs.Answering.{IsAnswered, is_answered}
-use Rattle.host_laws.proofs.RawRuns.{runs_are_raw}
+use Rattle.host_laws.proofs.Talking.{talks_are_raw}
 use Rattle.host_laws.proofs.Boxing.{IsHome, same_run}
 
 -- ---- a run that ended stays as it is
@@ -87,6 +91,25 @@ none_left number code (suc n) s e =
     by_done rest Done.Outside g = cc
     by_done rest Done.PastEnd g = cc
 
+-- the same of a run that the host answers
+talk_none_left : (number : ℕ) (code : List Instr) (words : List ℕ) (n : ℕ) (s : State) →
+    halt_of (host_talk number code words n s).stop ≡ None → (host_talk number code words n s).left ≡ 0
+unfolding host_talk
+talk_none_left number code [] n s e = none_left number code n s e
+talk_none_left number code (x ∷ xs) n s e =
+    by_stop (λ k q g. talk_none_left number code xs k q g) (host_run number code n s).stop refl e
+  where
+    first : Ended
+    first = host_run number code n s
+
+    by_stop : ((k : ℕ) (q : State) → halt_of (host_talk number code xs k q).stop ≡ None →
+        (host_talk number code xs k q).left ≡ 0) → (why : Stop) → first.stop ≡ why →
+        halt_of (after_wait (host_talk number code xs) x first why).stop ≡ None →
+        (after_wait (host_talk number code xs) x first why).left ≡ 0
+    by_stop rest stop.Returns is g = none_left number code n s g
+    by_stop rest (stop.Waits id) is g = rest first.left (with_word x first) g
+    by_stop rest (stop.Drops cause detail) is g = none_left number code n s g
+
 -- ---- the first machine
 
 some_code : (code : List Instr) → ends_well code ≡ true → 0 < length code
@@ -112,7 +135,8 @@ first_home code args segment boxed size =
 
 -- two runs of boxed code, of which one came to an end and the other is as long as the plug-in's, are one
 pub boxed_plugins_are_raw : Sandbox → RewrittenIsBoxed → Rewriting → BoxedPluginsAreRaw
-boxed_plugins_are_raw sandbox is_boxed rewriting code boxed number limit n args segment table halt made size ends most =
+boxed_plugins_are_raw sandbox is_boxed rewriting code boxed number limit n args segment words table halt made size ends
+    most =
     record {
       ended = sym far.ended ∙ ap (λ (q : CodeRun). q.ended) same ∙ mine.ended;
       registers = λ back i other.
@@ -127,10 +151,10 @@ boxed_plugins_are_raw sandbox is_boxed rewriting code boxed number limit n args 
     s = first_state args segment table
 
     e : Ended
-    e = host_run number boxed limit s
+    e = host_talk number boxed words limit s
 
     first : CodeRun
-    first = first_run (segment_base 0) (by_place segment) args (answers_of number boxed limit s)
+    first = first_run (segment_base 0) (by_place segment) args (talk_answers number boxed words limit s)
 
     raw : CodeRun
     raw = raw_run code n first
@@ -139,10 +163,10 @@ boxed_plugins_are_raw sandbox is_boxed rewriting code boxed number limit n args 
     all = n + 2 * raw.accesses
 
     mine : IsRawRun e (raw_run boxed (limit - e.left) first)
-    mine = runs_are_raw number boxed limit s first refl refl refl
+    mine = talks_are_raw number boxed words limit s first refl refl refl
 
     far : HasComeAsFar code raw (boxed_run boxed all first)
-    far = rewriting code boxed 0 n (by_place segment) args (answers_of number boxed limit s) made (omega arith)
+    far = rewriting code boxed 0 n (by_place segment) args (talk_answers number boxed words limit s) made (omega arith)
 
     alone : raw_run boxed (limit - e.left) first ≡ boxed_run boxed (limit - e.left) first
     alone = same_run sandbox boxed (limit - e.left) first (is_boxed code boxed made)
@@ -154,7 +178,7 @@ boxed_plugins_are_raw sandbox is_boxed rewriting code boxed number limit n args 
     by_halt : (o : Option Halt) → halt_of e.stop ≡ o →
         boxed_run boxed all first ≡ boxed_run boxed (limit - e.left) first
     by_halt None g =
-        let longer : all ≤ limit - e.left = omega (arith, most, none_left number boxed limit s g) in
+        let longer : all ≤ limit - e.left = omega (arith, most, talk_none_left number boxed words limit s g) in
         sym (no_more segment_place boxed all (limit - e.left) first halt longer far_ended)
     by_halt (Some h) g =
         let mine_ended : (boxed_run boxed (limit - e.left) first).ended ≡ Some h =

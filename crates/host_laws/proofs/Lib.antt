@@ -1,8 +1,10 @@
 pub mod Masked
 pub mod Answering
 pub mod RawRuns
+pub mod Talking
 pub mod Boxing
 pub mod BoxedRuns
+pub mod Conversing
 pub mod BoxedCalls
 pub mod Others
 pub mod Readings
@@ -14,3 +16,5 @@ pub mod Interleaving
 pub mod OneAtATime
 pub mod Aloneness
 pub mod Sound
+pub mod Fitting
+pub mod Written

@@ -49,7 +49,7 @@ raw_turn code k r e =
     ]) e
 
 -- one instruction of code alone, and the rest
-turned : (code : List Instr) (n left : ℕ) (r q : CodeRun) → left ≤ n → r.ended ≡ None →
+pub turned : (code : List Instr) (n left : ℕ) (r q : CodeRun) → left ≤ n → r.ended ≡ None →
     run_step masked_place code r ≡ q → raw_run code (suc n - left) r ≡ raw_run code (n - left) q
 turned code n left r q most e h =
     let a : suc n - left ≡ suc (n - left) = omega (arith, most) in
@@ -57,11 +57,11 @@ turned code n left r q most e h =
     ∙ ap (λ (x : CodeRun). raw_run code (n - left) x) h
 
 -- a run in which an access is counted, if it is one
-abbrev counted : List Instr → CodeRun → CodeRun
+abbrev pub counted : List Instr → CodeRun → CodeRun
 counted code r = counted_access (is_access (slice_get code r.machine.pc)) r
 
 -- a run that has ended
-last_turn : (code : List Instr) (n : ℕ) (r q : CodeRun) → r.ended ≡ None → run_step masked_place code r ≡ q →
+pub last_turn : (code : List Instr) (n : ℕ) (r q : CodeRun) → r.ended ≡ None → run_step masked_place code r ≡ q →
     raw_run code (suc n - n) r ≡ q
 last_turn code n r q e h =
     let all : n ≤ n = omega arith in

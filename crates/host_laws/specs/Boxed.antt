@@ -11,8 +11,9 @@ use Rattle.vino_host.specs.Codes.{RETURNED, DIVIDED, TRAPPED, is_taken}
 use Rattle.vino_host.specs.Plugins.{code_of}
 use Rattle.vino_host.specs.Calls.{Found, first_segment, call_says}
 use Rattle.vino_host.specs.HostMachine.{by_place}
-use Rattle.vino_host.specs.HostRuns.{State, state, Ended, host_run}
-use Rattle.host_laws.specs.RawAnswers.{answers_of, halt_of}
+use Rattle.vino_host.specs.HostRuns.{State, state, Ended}
+use Rattle.host_laws.specs.RawAnswers.{halt_of}
+use Rattle.host_laws.specs.Talks.{host_talk, talk_answers, answered_with}
 
 -- a plug-in's run does what a run of raw code did: it ended in the same way, and where the plug-in
 -- returned, it has the same registers, r14 apart, and the same segment
@@ -27,17 +28,18 @@ first_state args segment table =
     state (first_machine (segment_base 0) args (by_place segment)) table []
 
 -- Where raw code comes to its end within n instructions, k accesses among them, its boxed code as a
--- plug-in's, which may take n + 2k and more, does what the raw code did. The raw code is given the
--- words that the table gives the plug-in.
+-- plug-in's, which may take n + 2k and more, does what the raw code did. The host answers the plug-in's
+-- calls with these words; the raw code is given the words that the table and the host give the plug-in.
 abbrev pub BoxedPluginsAreRaw : Type 0
 BoxedPluginsAreRaw =
-    (code boxed : List Instr) (number limit n : ℕ) (args segment : List ℕ) (table : List Word) (halt : Halt) →
+    (code boxed : List Instr) (number limit n : ℕ) (args segment words : List ℕ) (table : List Word)
+    (halt : Halt) →
     rewrite code ≡ Ok boxed → length segment ≡ 4096 →
     let first = first_state args segment table in
     let raw = raw_run code n
-    (first_run (segment_base 0) (by_place segment) args (answers_of number boxed limit first)) in
+    (first_run (segment_base 0) (by_place segment) args (talk_answers number boxed words limit first)) in
     raw.ended ≡ Some halt → n + 2 * raw.accesses ≤ limit →
-    DoesWhatRawDid raw (host_run number boxed limit first)
+    DoesWhatRawDid raw (host_talk number boxed words limit first)
 
 -- a call returned what raw code returned
 pub record ReturnsWhatRawDid (raw : CodeRun) (f : Found) : Type 0 where
@@ -58,15 +60,18 @@ pub record IsFoundAsRaw (request : Request) (fed : List ℕ) (raw : CodeRun) (f 
       (f.answer.kind ≡ TRAPPED) × (f.answer.detail ≡ code)
 
 -- A call of a plug-in whose code the rewriter made of raw code answers as the raw code ends, where that
--- comes to its end within n instructions, k accesses among them, and the call may take n + 2k.
+-- comes to its end within n instructions, k accesses among them, and the call may take n + 2k. The
+-- caller answers each call of the host with the next of these words.
 abbrev pub BoxedCallsAreRaw : Type 0
 BoxedCallsAreRaw =
-    (code : List Instr) (plugin : List ℕ) (request : Request) (fed segment : List ℕ) (table : List Word)
-    (n : ℕ) (halt : Halt) →
+    (code : List Instr) (plugin : List ℕ) (request : Request) (fed segment words : List ℕ)
+    (table : List Word) (n : ℕ) (halt : Halt) →
     rewrite code ≡ Ok (code_of plugin) → length (first_segment plugin request fed segment) ≡ 4096 →
     let begins = first_segment plugin request fed segment in
     let args = request.r0 ∷ request.r1 ∷ request.r2 ∷ request.r3 ∷ [] in
-    let answers = answers_of request.number (code_of plugin) request.limit (first_state args begins table) in
+    let answers = talk_answers request.number (code_of plugin) words request.limit
+    (first_state args begins table) in
     let raw = raw_run code n (first_run (segment_base 0) (by_place begins) args answers) in
     raw.ended ≡ Some halt → n + 2 * raw.accesses ≤ request.limit →
-    IsFoundAsRaw request fed raw (call_says plugin request fed segment table)
+    IsFoundAsRaw request fed raw
+    (answered_with plugin words (call_says plugin request fed segment table))

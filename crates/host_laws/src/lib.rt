@@ -4,6 +4,7 @@
 ghost use Rattle.host_laws.specs.Alone.{RunsHangOnTheirWords};
 ghost use Rattle.host_laws.specs.Boxed.{BoxedCallsAreRaw, BoxedPluginsAreRaw};
 ghost use Rattle.host_laws.specs.Histories.{CallsAreOneAtATime};
+ghost use Rattle.host_laws.specs.Written.{WrittenPluginsDoWhatTheySay};
 ghost use Rattle.host_laws.specs.Claims.{StepsAreRaw, RunsAreRaw, RunsKeepTheTable, RunsLeaveOthers};
 
 /// An instruction of a plug-in is one of its code with each address masked.
@@ -19,8 +20,8 @@ pub fn runs_are_raw()
 {}
 
 /// Where raw code comes to its end within so many instructions, a plug-in whose code the rewriter made of
-/// it does, within that many and two more for each access, what the raw code did: up to its end, or up to
-/// its first call of the host.
+/// it does, within that many and two more for each access, what the raw code did. The host answers its
+/// calls with any words.
 pub fn boxed_plugins_are_raw()
     ensures { BoxedPluginsAreRaw }
 {
@@ -29,12 +30,22 @@ pub fn boxed_plugins_are_raw()
     box_rewriter::laws::boxed_does_what_raw_does();
 }
 
-/// A call of such a plug-in answers as the raw code ends: it returns the same registers and leaves the
-/// same segment, divides by zero, or traps with the same code.
+/// A call of such a plug-in, whose calls the caller answers in turn, answers as the raw code ends: it
+/// returns the same registers and leaves the same segment, divides by zero, or traps with the same
+/// code.
 pub fn boxed_calls_are_raw()
     ensures { BoxedCallsAreRaw }
 {
     boxed_plugins_are_raw();
+}
+
+/// A call of a plug-in that was compiled from a text of the graft language, boxed, sealed and loaded
+/// answers as the text's program ends: with the same r0 and r1, by a division by zero, or by the same trap.
+pub fn written_plugins_do_what_they_say()
+    ensures { WrittenPluginsDoWhatTheySay }
+{
+    graft_loader::laws::sealed_images_load();
+    boxed_calls_are_raw();
 }
 
 /// Whatever a run does, what its records put back is the table with which it began.
