@@ -1,0 +1,12 @@
+pub use Rattle.call_laws.specs.FileChanges
+pub use Rattle.call_laws.specs.NeedOrder
+pub use Rattle.call_laws.specs.NeedRanges
+pub use Rattle.call_laws.specs.SoundStores
+pub use Rattle.call_pieces.specs.EarlyFaults
+pub use Rattle.call_pieces.specs.Shared
+pub use Rattle.call_pieces.specs.Stores
+pub mod QuickTables
+pub mod QuickLaws
+pub mod Agreeing
+pub mod Granting
+pub mod Doing
