@@ -1,17 +1,13 @@
 -- What a run writes over the sample disk is what an audit of it wants.
-use Rattle.std.specs.Prelude.{◌≡◌, ℕ, Bool, List, []}
+use Rattle.std.specs.Prelude.{◌≡◌, ℕ, Bool, List}
 use Rattle.script_model.specs.declared.Keys.{Keys}
 use Rattle.script_model.specs.Directory.{sample_disk}
 use Rattle.script_model.specs.Session.{whole}
 use Rattle.script_model.specs.Outcome.{End, outcome, written}
 use Rattle.failure_laws.specs.Failures.{NothingFails}
+use Rattle.run_audit.specs.Audits.{wanted}
 use Rattle.run_audit.specs.Lines.{verdict}
 use Rattle.run_audit.specs.declared.Verdict.TheVariants.{Yes}
-
--- What an audit wants of a script: what its run writes over the sample disk, told of no call of the
--- disk.
-abbrev pub wanted : Keys → List ℕ → List ℕ
-wanted keys script = written (outcome whole keys script End sample_disk [])
 
 -- what the run of a script writes over the sample disk, where these lists say which of its calls of
 -- the disk fail

@@ -10,7 +10,7 @@ mod marks;
 mod pasts;
 
 pub use fallen::fall_back;
-pub use marks::{begin, marks_on, replay, step_on};
+pub use marks::{begin, is_going_on, marks_on, replay, step_on};
 
 /// A mark of a history: an instruction, or an ask whose level was dropped, with what its levels did
 /// that outlives them, in order.

@@ -1,6 +1,6 @@
 //! Histories are run again from the committed state.
 
-ghost use Rattle.std.specs.Prelude.{◌≡◌, ℕ, suc, List, IfOk, OnOk, length, map, option_map, true, false};
+ghost use Rattle.std.specs.Prelude.{◌≡◌, ◌++◌, ◌∷◌, [], ℕ, suc, List, IfOk, OnOk, length, map, option_map, true, false};
 ghost use Rattle.kernel_model.specs.History as model;
 ghost use Rattle.kernel_model.specs.Levels as levels;
 ghost use Rattle.graft_loader.specs.Slots.{table_of};
@@ -64,8 +64,8 @@ fn step_trace(place: &Place<'_>, trace: &mut Trace) -> Result<bool, NoMemory>
     Ok(true)
 }
 
-/// Whether a call goes on.
-fn is_going_on(said: &Micro) -> bool
+/// Whether a call goes on after an instruction that came to this.
+pub fn is_going_on(said: &Micro) -> bool
     ensures { result ≡ levels.is_going_on said.now }
 {
     match said {
@@ -188,6 +188,8 @@ pub fn step_on(
     ensures kept { IfOk result (λ o. levels.is_going_on o.said ≡ true →
         GoesOn (world_of place.now.world.now) (table_of place.now.images.now) place.now.process
         history.old.items history.new.items trace.old trace.new) }
+    ensures longer { IfOk result (λ o. levels.is_going_on o.said ≡ true →
+        history.new.items ≡ history.old.items ++ Mark.Stepped ∷ []) }
     ensures history { IfOk result (λ o. levels.is_going_on o.said ≡ false →
         history.new.items ≡ history.old.items) }
     ensures pasts { IfOk result (λ o. levels.is_going_on o.said ≡ false →

@@ -1,9 +1,11 @@
-//! The verdict on a claim of what a run writes: whether it is that, and else in which line it
-//! differs first.
+//! The auditor of runs: a script is run once more, from the definitions alone, and a claim of what
+//! the run writes is compared with that, to the first line that differs.
 #![tactic(auto)]
 
+mod auditing;
 mod comparing;
 
+pub use auditing::audit;
 pub use comparing::{compare, comparing_decides, conclude, start, yes_is_equal};
 
 /// The most bytes of a claim.

@@ -1,0 +1,5 @@
+pub mod Runs
+pub mod Asked
+pub mod Steps
+pub mod Sights
+pub mod Rows

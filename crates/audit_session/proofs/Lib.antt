@@ -1,0 +1,4 @@
+mod Lines
+mod Booting
+mod Placing
+mod Running
