@@ -71,7 +71,9 @@ pub fn load(key: &[u8; 32], bytes: &[u8]) -> Result<Box<Image>, Fault> {
         let bytes = bytes.try_into().expect("eight bytes");
         image.code[place] = Instruction::decode(bytes).ok_or(Fault(6, Some(place)))?;
     }
-    verify(&image.code[..count])?;
+    if !cfg!(unboxed) {
+        verify(&image.code[..count])?;
+    }
     image.has_access = image.code[..count].iter().any(Instruction::is_access);
     Ok(image)
 }
