@@ -1,5 +1,6 @@
 -- What is claimed of plug-ins that were written in the graft language.
-use Rattle.std.specs.Prelude.{◌≡◌, ◌≢◌, ℕ, ◌+◌, ◌*◌, ◌^◌, ◌<◌, ◌≤◌, Bool, true, List, [], ◌∷◌, length, Some, Ok, ⊤, slice_get}
+use Rattle.std.specs.Prelude.{◌≡◌, ◌≢◌, ℕ, ◌+◌, ◌*◌, ◌^◌, ◌<◌, ◌≤◌, Bool, true, List, [], ◌∷◌}
+use Rattle.std.specs.Prelude.{length, Some, Ok, ⊤, slice_get}
 use Rattle.kernel_data.specs.World.{Image}
 use Rattle.graft_code.specs.declared.Keys.{Keys}
 use Rattle.graft_code.specs.Boxed.{boxed_code}
@@ -27,8 +28,8 @@ pub record HasWords (request : Request) : Type 0 where
   pub r2 : request.r2 < 2 ^ 32
   pub r3 : request.r3 < 2 ^ 32
 
--- what a caller finds after a call is the end of a program: an answer that the point takes, a division
--- by zero, or a trap
+-- what a caller finds after a call is the end of a program: an answer that the point takes, a
+-- division by zero, or a trap
 pub record IsFoundAsSaid (request : Request) (fed : List ℕ) (end : End) (f : Found) : Type 0 where
   pub answered : (r0 r1 : ℕ) → end ≡ Answered r0 r1 → is_taken request.point (length fed) r0 ≡ true →
       (f.answer.kind ≡ RETURNED) × (f.answer.r0 ≡ r0) × (f.answer.r1 ≡ r1)
@@ -52,11 +53,12 @@ boxed_image keep i = record { code = boxed_code i.code; body = i.body; keep = ke
 abbrev pub WrittenPluginsDoWhatTheySay : Type 0
 WrittenPluginsDoWhatTheySay =
     (text : List ℕ) (image : Image) (compiled : IsCompiled text image) (p : grammar.Program)
-    (keys : Keys) (keep : Bool) (plugin : List ℕ) (request : Request) (fed segment words : List ℕ) (table : List Word) (n : ℕ)
-    (end : End) →
+    (keys : Keys) (keep : Bool) (plugin : List ℕ) (request : Request) (fed segment words : List ℕ)
+    (table : List Word) (n : ℕ) (end : End) →
     grammar.spelled p ≡ compiled.syntax.tokens → IsBoxedImage (boxed_image keep image) →
     load keys (sealed_under keys (boxed_image keep image)) ≡ Ok (image_of plugin) →
-    length (first_segment plugin request fed segment) ≡ 4096 → HasWords request → FitTable table → FitWords words →
+    length (first_segment plugin request fed segment) ≡ 4096 →
+    HasWords request → FitTable table → FitWords words →
     let begins = first_segment plugin request fed segment in
     let args = request.r0 ∷ request.r1 ∷ request.r2 ∷ request.r3 ∷ [] in
     let answers = talk_answers request.number (code_of plugin) words request.limit
