@@ -51,11 +51,14 @@ function showRegisters(registers, before) {
       make("dt", {}, name), make("dd", {}, String(value)))));
 }
 
-function showVariables(found, rows, before) {
+// The first seven variables are r7 to r13, the others words of the segment.
+const variableOf = (registers, rows, i) => i < 7 ? registers?.[`r${7 + i}`] ?? 0 : wordAt(rows, 4 * i);
+
+function showVariables(found, registers, rows, before) {
   const names = found?.graft.variables ?? [];
   byId("p-variables").hidden = !names.length;
   fill("variables", names.map((name, i) => {
-    const value = wordAt(rows, 4 * i), old = before && wordAt(before, 4 * i);
+    const value = variableOf(registers, rows, i), old = before && variableOf(before.registers, before.rows, i);
     return make("div", { class: before && old !== value ? "changed" : "" }, make("dt", {}, name), make("dd", {}, String(value)));
   }));
 }
@@ -111,6 +114,6 @@ function showGraft(trace, at, state, before) {
   const old = shown?.live && wasThere && wasThere.taken <= shown.taken ? before : null;
   showRegisters(key && from.registers?.[key], old?.registers?.[key]);
   const found = shown && graftOf(trace, from, shown.slot);
-  showVariables(found, from.memory?.[key], old ? old.memory?.[key] ?? {} : undefined);
+  showVariables(found, from.registers?.[key], from.memory?.[key], old ? { registers: old.registers?.[key], rows: old.memory?.[key] ?? {} } : undefined);
   showMemory(shown, from.memory?.[key], old ? old.memory?.[key] ?? {} : undefined);
 }

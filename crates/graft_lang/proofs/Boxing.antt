@@ -1,11 +1,11 @@
 -- The rewriter refuses no code of a program.
-use Rattle.std.specs.Prelude.{◌≡◌, ℕ, zero, suc, ◌+◌, ◌-◌, ◌*◌, ◌<◌, ◌≤◌, true, false, not, cond, ◌&&◌, ◌||◌, nat_lt}
-use Rattle.std.specs.Prelude.{nat_le, List, [], ◌∷◌, ◌++◌, length, Option, None, Some, Result, Ok, Err, ⊤}
+use Rattle.std.specs.Prelude.{◌≡◌, ℕ, zero, suc, ◌+◌, ◌-◌, ◌*◌, ◌<◌, ◌≤◌, Bool, true, false, not, cond, ◌&&◌, ◌||◌}
+use Rattle.std.specs.Prelude.{nat_lt, nat_le, List, [], ◌∷◌, ◌++◌, length, Option, None, Some, Result, Ok, Err, ⊤}
 use Rattle.std.proofs.Common.{arith, refl, ap, ◌∙◌}
 use Rattle.std.proofs.lemmas.Bool.Decides.{nat_tests}
 use Rattle.std.proofs.lemmas.List.{length-append}
 use Rattle.graft_texts.specs.declared.Instr.{Instr}
-use Rattle.graft_texts.specs.declared.Op.TheVariants.{Li, Mov, Ldw, Stw, Jmp, Jz, Call, Ret}
+use Rattle.graft_texts.specs.declared.Op.TheVariants.{Li, Mov, Add, Ldw, Stw, Jmp, Jz, Call, Ret}
 use Rattle.graft_texts.specs.Instructions.{names_register}
 use Rattle.graft_texts.specs.Boxed.{instr, is_jump, is_direct_call, ends_well, RewriteFault, NamesReserved, JumpsOut}
 use Rattle.graft_texts.specs.Boxed.{CallsUnknown, NoEnd, TooLong, boxed_code, boxed_place, rewrite_fault_at}
@@ -14,7 +14,8 @@ use Rattle.graft_texts.specs.declared.language.Operator.{Operator}
 use Rattle.graft_texts.specs.declared.language.Operator.TheVariants as o
 use Rattle.graft_texts.specs.LanguageMeaning.{Expression, Number, Variable, Binary, Program, Done, Assigns, Calls}
 use Rattle.graft_texts.specs.LanguageMeaning.{When, Either, Loops, Traps, Answers}
-use Rattle.graft_lang.specs.Code.{fetches, puts, operator_code, expression_code, arguments_code, registers_code}
+use Rattle.graft_lang.specs.Code.{fetches, puts, loads, source, operator_code, left_register, left_code, right_code}
+use Rattle.graft_lang.specs.Code.{expression_code, arguments_code, registers_code}
 use Rattle.graft_lang.specs.Code.{statements_code, zeros_code, prologue, epilogue, program_code}
 use Rattle.graft_lang.specs.Sizes.{CallsFit, ProgramsAreBoxed}
 use Rattle.graft_lang.proofs.Sizes.{programs_are_short}
@@ -41,45 +42,107 @@ inside n t h = grind (arith, nat_tests)
 known : (id : ℕ) → id < 16 → nat_lt 15 id ≡ false
 known id h = grind (arith, nat_tests)
 
+loaded_good : (reg : ℕ) → reg < 14 →
+    (names_register 14 (instr Ldw reg 5 0 0) || names_register 15 (instr Ldw reg 5 0 0)) ≡ false
+loaded_good reg h = grind (arith, nat_tests)
+
 fetches_good : (n reg slot : ℕ) → reg < 14 → AllGood n (fetches reg slot)
-fetches_good n reg slot h = ((refl, refl, refl), ((named reg h, refl, refl), tt))
+fetches_good n reg slot h = by (nat_lt slot 7) refl
   where
-    named : (reg : ℕ) → reg < 14 →
-        (names_register 14 (instr Ldw reg 5 0 0) || names_register 15 (instr Ldw reg 5 0 0)) ≡ false
-    named reg h = grind (arith, nat_tests)
+    copied : (reg slot : ℕ) → reg < 14 → nat_lt slot 7 ≡ true →
+        (names_register 14 (instr Mov reg (7 + slot) 0 0) || names_register 15 (instr Mov reg (7 + slot) 0 0)) ≡ false
+    copied reg slot h e = grind (arith, nat_tests)
+
+    by : (b : Bool) → nat_lt slot 7 ≡ b → AllGood n (cond b (instr Mov reg (7 + slot) 0 0 ∷ [])
+        (instr Li 5 0 0 (4 * slot) ∷ instr Ldw reg 5 0 0 ∷ []))
+    by true e = ((copied reg slot h e, refl, refl), tt)
+    by false e = ((refl, refl, refl), ((loaded_good reg h, refl, refl), tt))
 
 puts_good : (n reg slot : ℕ) → reg < 14 → AllGood n (puts reg slot)
-puts_good n reg slot h = ((refl, refl, refl), ((named reg h, refl, refl), tt))
+puts_good n reg slot h = by (nat_lt slot 7) refl
   where
+    copied : (reg slot : ℕ) → reg < 14 → nat_lt slot 7 ≡ true →
+        (names_register 14 (instr Mov (7 + slot) reg 0 0) || names_register 15 (instr Mov (7 + slot) reg 0 0)) ≡ false
+    copied reg slot h e = grind (arith, nat_tests)
+
     named : (reg : ℕ) → reg < 14 →
         (names_register 14 (instr Stw reg 5 0 0) || names_register 15 (instr Stw reg 5 0 0)) ≡ false
     named reg h = grind (arith, nat_tests)
 
-operator_good : (n : ℕ) (op : Operator) → AllGood n (operator_code op)
-operator_good n o.Plus = ((refl, refl, refl), tt)
-operator_good n o.Minus = ((refl, refl, refl), tt)
-operator_good n o.Times = ((refl, refl, refl), tt)
-operator_good n o.Over = ((refl, refl, refl), tt)
-operator_good n o.Rest = ((refl, refl, refl), tt)
-operator_good n o.And = ((refl, refl, refl), tt)
-operator_good n o.Or = ((refl, refl, refl), tt)
-operator_good n o.Xor = ((refl, refl, refl), tt)
-operator_good n o.ShiftLeft = ((refl, refl, refl), tt)
-operator_good n o.ShiftRight = ((refl, refl, refl), tt)
-operator_good n o.Less = ((refl, refl, refl), tt)
-operator_good n o.Equal = ((refl, refl, refl), ((refl, refl, refl), ((refl, refl, refl), tt)))
+    by : (b : Bool) → nat_lt slot 7 ≡ b → AllGood n (cond b (instr Mov (7 + slot) reg 0 0 ∷ [])
+        (instr Li 5 0 0 (4 * slot) ∷ instr Stw reg 5 0 0 ∷ []))
+    by true e = ((copied reg slot h e, refl, refl), tt)
+    by false e = ((refl, refl, refl), ((named reg h, refl, refl), tt))
+
+loads_good : (n reg slot : ℕ) → reg < 14 → AllGood n (loads reg slot)
+loads_good n reg slot h = by (nat_lt slot 7)
+  where
+    by : (b : Bool) → AllGood n (cond b [] (instr Li 5 0 0 (4 * slot) ∷ instr Ldw reg 5 0 0 ∷ []))
+    by true = tt
+    by false = ((refl, refl, refl), ((loaded_good reg h, refl, refl), tt))
+
+source_good : (reg slot : ℕ) → reg < 14 → source reg slot < 14
+source_good reg slot h = by (nat_lt slot 7) refl
+  where
+    inside : nat_lt slot 7 ≡ true → slot < 7
+    inside e = grind (arith, nat_tests, e)
+
+    by : (b : Bool) → nat_lt slot 7 ≡ b → cond b (7 + slot) reg < 14
+    by true e = let low = inside e in omega (arith, low)
+    by false e = h
+
+left_register_good : (a : Expression) → left_register a < 14
+left_register_good (Number n) = omega arith
+left_register_good (Variable i) = source_good 4 i (omega arith)
+left_register_good (Binary a op b) = omega arith
+
+-- an operation of r4 and two registers
+operands_good : (left right : ℕ) → left < 14 → right < 14 →
+    (names_register 14 (instr Add 4 left right 0) || names_register 15 (instr Add 4 left right 0)) ≡ false
+operands_good left right l r = grind (arith, nat_tests)
+
+operator_good : (n : ℕ) (op : Operator) (left right : ℕ) → left < 14 → right < 14 →
+    AllGood n (operator_code op left right)
+operator_good n o.Plus left right l r = ((operands_good left right l r, refl, refl), tt)
+operator_good n o.Minus left right l r = ((operands_good left right l r, refl, refl), tt)
+operator_good n o.Times left right l r = ((operands_good left right l r, refl, refl), tt)
+operator_good n o.Over left right l r = ((operands_good left right l r, refl, refl), tt)
+operator_good n o.Rest left right l r = ((operands_good left right l r, refl, refl), tt)
+operator_good n o.And left right l r = ((operands_good left right l r, refl, refl), tt)
+operator_good n o.Or left right l r = ((operands_good left right l r, refl, refl), tt)
+operator_good n o.Xor left right l r = ((operands_good left right l r, refl, refl), tt)
+operator_good n o.ShiftLeft left right l r = ((operands_good left right l r, refl, refl), tt)
+operator_good n o.ShiftRight left right l r = ((operands_good left right l r, refl, refl), tt)
+operator_good n o.Less left right l r = ((operands_good left right l r, refl, refl), tt)
+operator_good n o.Equal left right l r = ((operands_good left right l r, refl, refl), ((refl, refl, refl), ((refl, refl, refl), tt)))
+
+left_good : (n : ℕ) (a : Expression) (own : List Instr) → AllGood n own → AllGood n (left_code a own)
+left_good n (Number x) own h = h
+left_good n (Variable i) own h = loads_good n 4 i (omega arith)
+left_good n (Binary a op b) own h = h
+
+right_good : (n top : ℕ) (op : Operator) (left : ℕ) (b : Expression) (own : List Instr) → left < 14 →
+    AllGood n own → AllGood n (right_code top op left b own)
+right_good n top op left (Number x) own l h = ((refl, refl, refl), operator_good n op left 6 l (omega arith))
+right_good n top op left (Variable i) own l h =
+    good_append n (loads 6 i) (operator_code op left (source 6 i)) (loads_good n 6 i (omega arith))
+    (operator_good n op left (source 6 i) l (source_good 6 i (omega arith)))
+right_good n top op left (Binary a op' b) own l h =
+    let end = loads 6 top ++ operator_code op (source 6 top) 4 in
+    good_append n (puts left top) (own ++ end) (puts_good n left top l)
+    (good_append n own end h
+    (good_append n (loads 6 top) (operator_code op (source 6 top) 4) (loads_good n 6 top (omega arith))
+    (operator_good n op (source 6 top) 4 (source_good 6 top (omega arith)) (omega arith))))
 
 expression_good : (n top : ℕ) (e : Expression) → AllGood n (expression_code top e)
 expression_good n top (Number x) = ((refl, refl, refl), tt)
 expression_good n top (Variable i) = fetches_good n 4 i (omega arith)
 expression_good n top (Binary a op b) =
-    good_append n (expression_code top a)
-    (puts 4 top ++ (expression_code (suc top) b ++ (fetches 6 top ++ operator_code op)))
-    (expression_good n top a)
-    (good_append n (puts 4 top) (expression_code (suc top) b ++ (fetches 6 top ++ operator_code op))
-    (puts_good n 4 top (omega arith))
-    (good_append n (expression_code (suc top) b) (fetches 6 top ++ operator_code op) (expression_good n (suc top) b)
-    (good_append n (fetches 6 top) (operator_code op) (fetches_good n 6 top (omega arith)) (operator_good n op))))
+    good_append n (left_code a (expression_code top a))
+    (right_code top op (left_register a) b (expression_code (suc top) b))
+    (left_good n a (expression_code top a) (expression_good n top a))
+    (right_good n top op (left_register a) b (expression_code (suc top) b) (left_register_good a)
+    (expression_good n (suc top) b))
 
 arguments_good : (n top : ℕ) (es : List Expression) → AllGood n (arguments_code top es)
 arguments_good n top [] = tt
@@ -260,9 +323,7 @@ programs_are_boxed v p least most few fits =
     RewriteFault) [ Some fault ↦ Err fault | None ↦ Ok (boxed_code code) ]) none
   where
     ends_as : (is ks : List Instr) → ends_well (is ++ (ks ++ epilogue)) ≡ true
-    ends_as is [] =
-        ends_well-append is
-        (instr Li 5 0 0 (4 * 0)) (instr Ldw 0 5 0 0 ∷ (fetches 1 1 ++ (instr Ret 0 0 0 0 ∷ [])))
-    ends_as is (k ∷ ks) = ends_well-append is k (ks ++ epilogue)
-        ∙ ends_well-append (k ∷ ks) (instr Li 5 0 0
-        (4 * 0)) (instr Ldw 0 5 0 0 ∷ (fetches 1 1 ++ (instr Ret 0 0 0 0 ∷ [])))
+    ends_as is [] = ends_well-append is (instr Mov 0 7 0 0) (instr Mov 1 8 0 0 ∷ instr Ret 0 0 0 0 ∷ [])
+    ends_as is (k ∷ ks) =
+        ends_well-append is k (ks ++ epilogue)
+        ∙ ends_well-append (k ∷ ks) (instr Mov 0 7 0 0) (instr Mov 1 8 0 0 ∷ instr Ret 0 0 0 0 ∷ [])

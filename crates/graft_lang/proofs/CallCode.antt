@@ -1,6 +1,6 @@
 -- The code of a call: its arguments come to the registers, and its answer to the variable.
-use Rattle.std.specs.Prelude.{◌≡◌, ℕ, zero, suc, ◌+◌, ◌^◌, ◌<◌, ◌≤◌, Bool, true, false, cond, ◌==◌, List, [], ◌∷◌, ◌++◌}
-use Rattle.std.specs.Prelude.{length, slice_get, Option, Some, None}
+use Rattle.std.specs.Prelude.{◌≡◌, ℕ, zero, suc, ◌+◌, ◌^◌, ◌<◌, ◌≤◌, Bool, true, false, cond, nat_lt, ◌==◌, List, []}
+use Rattle.std.specs.Prelude.{◌∷◌, ◌++◌, length, slice_get, Option, Some, None}
 use Rattle.std.proofs.Common.{arith, refl, subst, sym, ap, ◌∙◌}
 use Rattle.std.proofs.lemmas.Bool.Decides.{nat_tests}
 use Rattle.std.proofs.lemmas.List.{length-append}
@@ -14,11 +14,11 @@ use Rattle.graft_texts.specs.LanguageMeaning as m
 use Rattle.graft_texts.specs.LanguageMeaning.{Expression, End, Asks, DividedByZero, State, value, values, value_before}
 use Rattle.graft_texts.specs.LanguageMeaning.{made_call}
 use Rattle.graft_lang.specs.Code.{fetches, puts, expression_code, arguments_code, registers_code}
-use Rattle.graft_lang.specs.Placing.{Stands, IsAt, ComesTo}
+use Rattle.graft_lang.specs.Placing.{Stands, word_of, IsAt, ComesTo}
 use Rattle.graft_lang.specs.Going.{run, going, IsSmall, HasEnd, Goes, AllFit}
-use Rattle.graft_lang.proofs.Running.{one_step, two_parts, stands_first, stands_second, put_runs, fetch_runs}
-use Rattle.graft_lang.proofs.Running.{expressions_run, value_small, value_same}
-use Rattle.graft_lang.proofs.Slots.{put_slot, all_small}
+use Rattle.graft_lang.proofs.Slots.{one_step, two_parts, stands_first, stands_second, put_slot, put_runs, fetch_runs}
+use Rattle.graft_lang.proofs.Slots.{unslotted}
+use Rattle.graft_lang.proofs.Running.{expressions_run, value_small, value_same, all_small}
 
 -- ---- lists of values
 
@@ -101,13 +101,13 @@ arguments_run [] code cells v top c calls answers r small low fits h a =
 arguments_run (e ∷ es) code cells v top c calls answers r small low fits h a =
     let first = expression_code top e in
     let others = arguments_code (suc top) es in
-    let long : length first + (2 + length others) ≡ length (first ++ (puts 4 top ++ others)) =
+    let long : length first + (length (puts 4 top) + length others) ≡ length (first ++ (puts 4 top ++ others)) =
     omega (arith, length-append first (puts 4 top ++ others), length-append (puts 4 top) others) in
     subst (λ n. AllCome cells top c n calls answers code r
     (e ∷ es) (value_before (value cells e) (values cells es))) long
     (by (value cells e) refl (expressions_run e code cells v top c calls answers r small fits.1
     (stands_first code c first (puts 4 top ++ others) h) a)
-    (λ x low_x u there. arguments_run es code (at top x cells) v (suc top) (c + length first + 2)
+    (λ x low_x u there. arguments_run es code (at top x cells) v (suc top) (c + length first + length (puts 4 top))
     calls answers u (all_small cells top x small low_x) (omega (arith, low)) fits.2
     (stands_second code (c + length first) (puts 4 top) others
     (stands_second code c first (puts 4 top ++ others) h)) there))
@@ -116,15 +116,16 @@ arguments_run (e ∷ es) code cells v top c calls answers r small low fits h a =
     len = length (expression_code top e)
 
     second : (x : ℕ) → x < 2 ^ 32 → (ys : Option (List ℕ))
-        → AllCome (at top x cells) (suc top) (c + length (expression_code top e) + 2)
+        → AllCome (at top x cells) (suc top) (c + length (expression_code top e) + length (puts 4 top))
         (length (arguments_code (suc top) es)) calls answers code
-        (run code 2 (run code (length (expression_code top e)) r)) es ys
-        → AllCome cells top c (length (expression_code top e) + (2 + length
+        (run code (length (puts 4 top)) (run code (length (expression_code top e)) r)) es ys
+        → AllCome cells top c (length (expression_code top e) + (length (puts 4 top) + length
         (arguments_code (suc top) es))) calls answers code r (e ∷ es) (value_before (Some x) ys)
     second x small_x None k =
         let n = length (expression_code top e) in
-        let all = two_parts code n (2 + k.0) r ∙ two_parts code 2 k.0 (run code n r) in (
-          n + (2 + k.0),
+        let all = two_parts code n (length (puts 4 top) + k.0) r
+        ∙ two_parts code (length (puts 4 top)) k.0 (run code n r) in (
+          n + (length (puts 4 top) + k.0),
           omega (arith, k.1),
           ap (λ (u : CodeRun). u.ended) all
               ∙ k.2,
@@ -133,17 +134,18 @@ arguments_run (e ∷ es) code cells v top c calls answers r small low fits h a =
     second x small_x (Some xs) k =
         let n = length (expression_code top e) in
         let more = length (arguments_code (suc top) es) in
-        let all = two_parts code n (2 + more) r ∙ two_parts code 2 more (run code n r) in
-        let there : c + n + 2 + more ≡ c + (n + (2 + more)) = omega arith in
+        let all = two_parts code n (length (puts 4 top) + more) r
+        ∙ two_parts code (length (puts 4 top)) more (run code n r) in
+        let there : c + n + length (puts 4 top) + more ≡ c + (n + (length (puts 4 top) + more)) = omega arith in
         let up : suc top + length es ≡ top + suc (length es) = omega arith in
         record {
           stands =
               subst (λ u. IsAt (stored (suc top) xs (at top x cells)) (top + suc (length es))
-              (c + (n + (2 + more))) calls answers u) (sym all)
+              (c + (n + (length (puts 4 top) + more))) calls answers u) (sym all)
               (subst (λ q. IsAt (stored (suc top) xs (at top x cells)) (top + suc (length es)) q
-              calls answers (run code more (run code 2 (run code n r)))) there
-              (subst (λ t. IsAt (stored (suc top) xs (at top x cells)) t (c + n + 2 + more) calls
-              answers (run code more (run code 2 (run code n r)))) up k.stands));
+              calls answers (run code more (run code (length (puts 4 top)) (run code n r)))) there
+              (subst (λ t. IsAt (stored (suc top) xs (at top x cells)) t (c + n + length (puts 4 top) + more) calls
+              answers (run code more (run code (length (puts 4 top)) (run code n r)))) up k.stands));
           fine = at_first xs x small_x k.fine;
           as_many = ap suc k.as_many;
         }
@@ -156,25 +158,25 @@ arguments_run (e ∷ es) code cells v top c calls answers r small low fits h a =
     by : (x : Option ℕ) → value cells e ≡ x →
         ComesTo cells top c (length (expression_code top e)) calls answers code r x
         → ((x : ℕ) → x < 2 ^ 32 → (u : CodeRun) →
-        IsAt (at top x cells) (suc top) (c + length (expression_code top e) + 2) calls answers u
-        → AllCome (at top x cells) (suc top) (c + length (expression_code top e) + 2) (length
+        IsAt (at top x cells) (suc top) (c + length (expression_code top e) + length (puts 4 top)) calls answers u
+        → AllCome (at top x cells) (suc top) (c + length (expression_code top e) + length (puts 4 top)) (length
         (arguments_code (suc top) es)) calls answers code u es (values (at top x cells) es))
         → AllCome cells top c
-        (length (expression_code top e) + (2 + length (arguments_code (suc top) es))) calls
+        (length (expression_code top e) + (length (puts 4 top) + length (arguments_code (suc top) es))) calls
         answers code r (e ∷ es) (value_before x (values cells es))
     by None is k later = (k.0, omega (arith, k.1), k.2, k.3)
     by (Some x) is k later =
         let small_x = value_small cells v top e x small fits.1 is in
-        let p = put_runs code cells top (c + length (expression_code top e)) calls answers x
-        (run code (length (expression_code top e)) r) fits.0
+        let p = put_runs code cells top (c + length (expression_code top e)) calls answers 4 x
+        (run code (length (expression_code top e)) r) (λ z. absurd cc) fits.0 small_x
         (stands_first code (c + length (expression_code top e)) (puts 4 top) (arguments_code (suc top) es)
         (stands_second code c (expression_code top e) (puts 4 top ++ arguments_code (suc top) es) h)) k.0 k.1 in
         subst (λ ys. AllCome cells top c
-        (length (expression_code top e) + (2 + length (arguments_code (suc top) es))) calls
+        (length (expression_code top e) + (length (puts 4 top) + length (arguments_code (suc top) es))) calls
         answers code r (e ∷ es) (value_before (Some x) ys))
         (values_same es cells v (suc top) top x low fits.2)
         (second x small_x (values (at top x cells) es)
-        (later x small_x (run code 2 (run code (length (expression_code top e)) r)) p))
+        (later x small_x (run code (length (puts 4 top)) (run code (length (expression_code top e)) r)) p))
 
 -- ---- arguments come to the registers
 
@@ -212,10 +214,10 @@ loads_on code cells top c n len calls answers reg left x xs r here before h ys f
 -- a register becomes 0
 cleared : (code : List Instr) (cells : ℕ → ℕ) (top c : ℕ) (calls : List MadeCall)
     (answers : List (ℕ × ℕ)) (reg : ℕ) (r : CodeRun)
-    → slice_get code c ≡ Some (instr Li reg 0 0 0) → IsAt cells top c calls answers r
+    → reg < 7 → slice_get code c ≡ Some (instr Li reg 0 0 0) → IsAt cells top c calls answers r
     → IsAt cells top (c + 1) calls answers (run code 1 r) × ((run code 1 r).machine.regs reg ≡ 0)
     × ((i : ℕ) → i < reg → (run code 1 r).machine.regs i ≡ r.machine.regs i)
-cleared code cells top c calls answers reg r h a =
+cleared code cells top c calls answers reg r low h a =
     let here : slice_get code r.machine.pc ≡ Some (instr Li reg 0 0 0) =
     subst (λ k. slice_get code k ≡ Some (instr Li reg 0 0 0)) (sym a.place) h in
     subst (λ u. IsAt cells top (c + 1) calls answers u × (u.machine.regs reg ≡ 0)
@@ -224,7 +226,8 @@ cleared code cells top c calls answers reg r h a =
       record {
         place = ap (λ n. n + 1) a.place;
         going = a.going;
-        slots = a.slots;
+        slots = λ i below. ap (λ y. cond (nat_lt i 7) y (word_of r.machine.memory i))
+            (unslotted reg i (word 0) r.machine.regs low) ∙ a.slots i below;
         calls_are = a.calls_are;
         answers_are = a.answers_are;
       },
@@ -248,7 +251,7 @@ registers_run zero es xs code cells bound top c calls answers reg r room same sl
       kept = λ i below. refl;
     }
 registers_run (suc left) [] [] code cells bound top c calls answers reg r room same slots fine low high h a =
-    let one = cleared code cells bound c calls answers reg r h.0 a in
+    let one = cleared code cells bound c calls answers reg r (omega (arith, room)) h.0 a in
     let there : suc c ≡ c + 1 = omega arith in
     let len = length (registers_code (suc reg) top left []) in
     let long : 1 + len ≡ suc len = omega arith in
@@ -269,17 +272,18 @@ registers_run (suc left) (e ∷ es) (x ∷ xs) code cells bound top c calls answ
     let zeroth : top + 0 ≡ top = omega arith in
     let slot : cells top ≡ x = sym (ap cells zeroth) ∙ slots 0 (omega arith) in
     let low_top : top < bound = omega (arith, low) in
-    let f = fetch_runs code cells bound c calls answers reg top r low_top
+    let n = length (fetches reg top) in
+    let f = fetch_runs code cells bound c calls answers reg top r (omega (arith, room)) low_top
     (omega (arith, low_top, high)) (subst (λ n. n < 2 ^ 32) (sym slot) (fine 0))
     (stands_first code c (fetches reg top) (registers_code (suc reg) (suc top) left es) h) a in
     let len = length (registers_code (suc reg) (suc top) left es) in
-    let long : 2 + len ≡ length (fetches reg top ++ registers_code (suc reg) (suc top) left es) =
+    let long : n + len ≡ length (fetches reg top ++ registers_code (suc reg) (suc top) left es) =
     sym (length-append (fetches reg top) (registers_code (suc reg) (suc top) left es)) in
-    subst (λ n. Loaded cells bound c n calls answers reg (suc left) (x ∷ xs) (run code n r) r) long
-    (loads_on code cells bound c 2 len calls answers reg left x xs r (f.here ∙ slot)
+    subst (λ k. Loaded cells bound c k calls answers reg (suc left) (x ∷ xs) (run code k r) r) long
+    (loads_on code cells bound c n len calls answers reg left x xs r (f.here ∙ slot)
     (λ i below. f.others i (λ z. absurd (omega (arith, z, below, room))) (λ z. absurd (omega (arith, z, below))))
-    (registers_run left es xs code cells bound (suc top) (c + 2) calls answers (suc reg)
-    (run code 2 r) (omega (arith, room)) (omega (arith, same))
+    (registers_run left es xs code cells bound (suc top) (c + n) calls answers (suc reg)
+    (run code n r) (omega (arith, room)) (omega (arith, same))
     (λ j below. let there : suc top + j ≡ top + suc j = omega arith in ap cells there
     ∙ slots (suc j) (omega (arith, below))) (λ j. fine (suc j)) (omega (arith, low)) high
     (stands_second code c (fetches reg top) (registers_code (suc reg) (suc top) left es) h) f.stands)
@@ -312,6 +316,13 @@ answer_in_r0 : (b : Bool) (pair : ℕ × ℕ) (regs : ℕ → ℕ) →
 answer_in_r0 true pair regs = refl
 answer_in_r0 false pair regs = refl
 
+-- the answer changes no register of a slot
+answer_unslotted : (b : Bool) (pair : ℕ × ℕ) (regs : ℕ → ℕ) (i : ℕ) →
+    cond b (at 1 pair.1 (at 0 pair.0 regs)) (at 0 pair.0 regs) (7 + i) ≡ regs (7 + i)
+answer_unslotted true pair regs i =
+    unslotted 1 i pair.1 (at 0 pair.0 regs) (omega arith) ∙ unslotted 0 i pair.0 regs (omega arith)
+answer_unslotted false pair regs i = unslotted 0 i pair.0 regs (omega arith)
+
 -- what comes behind the registers: the call, and its answer goes to the variable
 pub answered_goes : (i id : ℕ) (xs : List ℕ) (code : List Instr) (most v top c n : ℕ)
     (cells all : ℕ → ℕ) (calls : List MadeCall) (answers : List (ℕ × ℕ)) (turns : ℕ) (r : CodeRun)
@@ -320,7 +331,7 @@ pub answered_goes : (i id : ℕ) (xs : List ℕ) (code : List Instr) (most v top
     → Stands code c (instr Call 0 0 0 id ∷ puts 0 i) → IsAt all top c calls answers (run code n r)
     → (run code n r).machine.regs 0 ≡ nth xs 0 → (run code n r).machine.regs 1 ≡ nth xs 1 →
     (run code n r).machine.regs 2 ≡ nth xs 2
-    → c + 3 ≡ c0 + len → n + 3 ≤ len
+    → c + (1 + length (puts 0 i)) ≡ c0 + len → n + (1 + length (puts 0 i)) ≤ len
     → Goes code most v c0 len r (going cells calls answers turns)
     (m.answers_call i (made_call id xs) (going cells calls answers turns) answers)
 answered_goes i id xs code most v top c n cells all calls [] turns r c0 len below low high same
@@ -359,25 +370,27 @@ answered_goes i id xs code most v top c n cells all calls (pair ∷ pairs) turns
     (record {
       place = ap (λ k. k + 1) a.place;
       going = a.going;
-      slots = a.slots;
+      slots = λ i below. ap (λ y. cond (nat_lt i 7) y (word_of m0.memory i))
+          (answer_unslotted (id == 13) pair m0.regs i) ∙ a.slots i below;
       calls_are = ap (λ (cs : List MadeCall). cs ++ made ∷ []) a.calls_are ∙ ap (λ (k : MadeCall). calls ++ k ∷ []) is;
       answers_are = refl;
     }) in
     let in_r0 : w.machine.regs 0 ≡ pair.0 = ap (λ (u : CodeRun). u.machine.regs 0) call
     ∙ answer_in_r0 (id == 13) pair m0.regs in
     let there : suc c ≡ c + 1 = omega arith in
-    let p = put_slot code all top (c + 1) (calls ++ made_call id xs ∷ []) pairs 0 i pair.0 w high
-    (subst (λ q. Stands code q (puts 0 i)) there h.1) after in_r0 in
-    let three = two_parts code n 3 r ∙ two_parts code 1 2 (run code n r) in
-    let place3 : c + 1 + 2 ≡ c0 + len = omega (arith, place) in
+    let q = length (puts 0 i) in
+    let p = put_slot code all top top (c + 1) (calls ++ made_call id xs ∷ []) pairs 0 i pair.0 w (λ z. absurd cc) high
+    small.answers_are.0 (λ j less k. less) (subst (λ q. Stands code q (puts 0 i)) there h.1) after in_r0 in
+    let three = two_parts code n (1 + q) r ∙ two_parts code 1 q (run code n r) in
+    let place3 : c + 1 + q ≡ c0 + len = omega (arith, place) in
     record {
-      steps = n + 3;
+      steps = n + (1 + q);
       used = 0;
       turns_are = omega arith;
       least = omega arith;
       bound = omega (arith, room);
       stands = subst (λ u. IsAt (at i pair.0 cells) v (c0 + len) (calls ++ made_call id xs ∷ []) pairs u) (sym three)
-          (subst (λ q. IsAt (at i pair.0 cells) v q (calls ++ made_call id xs ∷ []) pairs (run code 2 w)) place3
+          (subst (λ k. IsAt (at i pair.0 cells) v k (calls ++ made_call id xs ∷ []) pairs (run code q w)) place3
           (record {
             place = p.place;
             going = p.going;
@@ -397,7 +410,7 @@ pub call_goes : (i id : ℕ) (es : List Expression) (code : List Instr) (most v 
     → i < v → v + length es ≤ 1024 → AllFit v v es
     → Stands code c (arguments_code v es ++ (registers_code 0 v 3 es ++ (instr Call 0 0 0 id ∷ puts 0 i)))
     → IsSmall (going cells calls answers turns) → IsAt cells v c calls answers r
-    → Goes code most v c (length (arguments_code v es) + (length (registers_code 0 v 3 es) + 3)) r
+    → Goes code most v c (length (arguments_code v es) + (length (registers_code 0 v 3 es) + (1 + length (puts 0 i)))) r
     (going cells calls answers turns)
     (m.calls i id (going cells calls answers turns) (values cells es))
 call_goes i id es code most v c cells calls answers turns r below low fits h small a =
@@ -406,7 +419,8 @@ call_goes i id es code most v c cells calls answers turns r below low fits h sma
     (stands_first code c (arguments_code v es) (registers_code 0 v 3 es ++ (instr Call 0 0 0 id ∷ puts 0 i)) h) a)
   where
     by : (ys : Option (List ℕ)) → AllCome cells v c (length (arguments_code v es)) calls answers code r es ys
-        → Goes code most v c (length (arguments_code v es) + (length (registers_code 0 v 3 es) + 3))
+        → Goes code most v c
+        (length (arguments_code v es) + (length (registers_code 0 v 3 es) + (1 + length (puts 0 i))))
         r (going cells calls answers turns)
         (m.calls i id (going cells calls answers turns) ys)
     by None k =
@@ -431,7 +445,7 @@ call_goes i id es code most v c cells calls answers turns r below low fits h sma
         let both = two_parts code n q r in
         let u = run code q (run code n r) in
         answered_goes i id xs code most v (v + length es) (c + n + q) (n + q) cells
-        (stored v xs cells) calls answers turns r c (n + (q + 3)) below (omega arith)
+        (stored v xs cells) calls answers turns r c (n + (q + (1 + length (puts 0 i)))) below (omega arith)
         (omega (arith, low, below))
         (λ j less. stored_below xs v j cells less) small last
         (subst (λ w. IsAt (stored v xs cells) (v + length es) (c + n + q) calls answers w) (sym both) l.stands)

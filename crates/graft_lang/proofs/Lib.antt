@@ -1,5 +1,5 @@
-pub mod Running
 pub mod Slots
+pub mod Running
 pub mod CallCode
 pub mod Statements
 pub mod Whole
@@ -7,4 +7,6 @@ pub mod Sizes
 pub mod Boxing
 pub mod Accepted
 pub mod Writing
+pub mod CallWriting
+pub mod Operands
 pub mod Spelled

@@ -1,6 +1,6 @@
 -- The code of statements does what the statements do.
-use Rattle.std.specs.Prelude.{◌≡◌, ℕ, zero, suc, ◌+◌, ◌*◌, ◌^◌, ◌<◌, ◌≤◌, Bool, true, false, cond, ◌==◌, List, [], ◌∷◌}
-use Rattle.std.specs.Prelude.{◌++◌, length, slice_get, Option, Some, None}
+use Rattle.std.specs.Prelude.{◌≡◌, ℕ, zero, suc, ◌+◌, ◌*◌, ◌^◌, ◌<◌, ◌≤◌, Bool, true, false, cond, nat_lt, ◌==◌}
+use Rattle.std.specs.Prelude.{List, [], ◌∷◌, ◌++◌, length, slice_get, Option, Some, None}
 use Rattle.std.proofs.Common.{arith, refl, subst, sym, ap, ◌∙◌}
 use Rattle.std.proofs.lemmas.Bool.Decides.{nat_tests}
 use Rattle.std.proofs.lemmas.List.{length-append}
@@ -14,13 +14,13 @@ use Rattle.graft_texts.specs.LanguageMeaning as m
 use Rattle.graft_texts.specs.LanguageMeaning.{Expression, Program, End, Answered, Trapped, DividedByZero, Asks, Going}
 use Rattle.graft_texts.specs.LanguageMeaning.{State, value, does}
 use Rattle.graft_lang.specs.Code.{fetches, puts, expression_code, arguments_code, registers_code, statements_code}
-use Rattle.graft_lang.specs.Placing.{Fits, Stands, IsAt, ComesTo}
+use Rattle.graft_lang.specs.Placing.{Fits, Stands, word_of, IsAt, ComesTo}
 use Rattle.graft_lang.specs.Going.{run, going, IsSmall, HasEnd, GoesOn, EndsSo, GoesBy, Goes, FitsProgram}
 use Rattle.graft_lang.specs.Going.{StatementsRun}
-use Rattle.graft_lang.proofs.Slots.{put_slot, all_small}
 use Rattle.graft_lang.proofs.CallCode.{call_goes}
-use Rattle.graft_lang.proofs.Running.{one_step, two_parts, stands_first, stands_second, put_runs, fetch_runs}
-use Rattle.graft_lang.proofs.Running.{expressions_run, value_small, value_same}
+use Rattle.graft_lang.proofs.Slots.{one_step, two_parts, stands_first, stands_second, put_slot, put_runs, fetch_runs}
+use Rattle.graft_lang.proofs.Slots.{unslotted}
+use Rattle.graft_lang.proofs.Running.{expressions_run, value_small, value_same, all_small}
 
 -- ---- parts in order
 
@@ -195,24 +195,28 @@ assign_goes i e code most v c below low fits h cells calls answers turns r small
     fits (stands_first code c (expression_code v e) (puts 4 i) h) a))
   where
     by : (x : Option ℕ) → value cells e ≡ x → ComesTo cells v c (length (expression_code v e)) calls answers code r x
-        → Goes code most v c (length (expression_code v e) + 2) r (going cells calls answers turns)
+        → Goes code most v c (length (expression_code v e) + length (puts 4 i)) r (going cells calls answers turns)
         (m.assigns i (going cells calls answers turns) x)
-    by None is k = divided code most v c (length (expression_code v e)) 2 cells calls answers turns r k
+    by None is k =
+        divided code most v c (length (expression_code v e)) (length (puts 4 i)) cells calls answers turns r k
     by (Some x) is k =
         let len = length (expression_code v e) in
-        let there : c + len + 2 ≡ c + (len + 2) = omega arith in
+        let n = length (puts 4 i) in
+        let there : c + len + n ≡ c + (len + n) = omega arith in
+        let low_x = value_small cells v v e x small.cells_are fits is in
         record {
-          steps = len + 2;
+          steps = len + n;
           used = 0;
           turns_are = omega arith;
           least = omega arith;
           bound = omega arith;
-          stands = subst (λ n. IsAt (at i x cells) v n calls answers (run code (len + 2) r)) there
-              (subst (λ u. IsAt (at i x cells) v (c + len + 2) calls answers u) (sym (two_parts code len 2 r))
-              (put_slot code cells v (c + len) calls answers 4 i x (run code len r) (omega (arith, below, low))
+          stands = subst (λ k. IsAt (at i x cells) v k calls answers (run code (len + n) r)) there
+              (subst (λ u. IsAt (at i x cells) v (c + len + n) calls answers u) (sym (two_parts code len n r))
+              (put_slot code cells v v (c + len) calls answers 4 i x (run code len r) (λ z. absurd cc)
+              (omega (arith, below, low)) low_x (λ j less k. less)
               (stands_second code c (expression_code v e) (puts 4 i) h) k.0 k.1));
           small = record {
-            cells_are = all_small cells i x small.cells_are (value_small cells v v e x small.cells_are fits is);
+            cells_are = all_small cells i x small.cells_are low_x;
             answers_are = small.answers_are;
           };
         }
@@ -627,7 +631,8 @@ moved code cells top c calls answers y r low h a is =
       record {
         place = ap (λ n. n + 1) a.place;
         going = a.going;
-        slots = a.slots;
+        slots = λ i below. ap (λ x. cond (nat_lt i 7) x (word_of r.machine.memory i))
+            (unslotted 1 i (word (r.machine.regs 4)) r.machine.regs (omega arith)) ∙ a.slots i below;
         calls_are = a.calls_are;
         answers_are = a.answers_are;
       },
@@ -653,26 +658,30 @@ last_code v = instr Mov 1 4 0 0 ∷ (fetches 0 v ++ (instr Ret 0 0 0 0 ∷ []))
 last_goes : (code : List Instr) (cells : ℕ → ℕ) (v c : ℕ) (calls : List MadeCall)
     (answers : List (ℕ × ℕ)) (x y : ℕ) (r : CodeRun) → v < 1024 → x < 2 ^ 32 → y < 2 ^ 32
     → Stands code c (last_code v) → IsAt (at v x cells) (suc v) c calls answers r → r.machine.regs 4 ≡ y
-    → HasEnd (Answered x y) (run code 4 r) × ((run code 4 r).calls ≡ calls)
+    → HasEnd (Answered x y) (run code (1 + (length (fetches 0 v) + 1)) r)
+    × ((run code (1 + (length (fetches 0 v) + 1)) r).calls ≡ calls)
 last_goes code cells v c calls answers x y r low small fine h a e =
     let one = moved code (at v x cells) (suc v) c calls answers y r fine h.0 a e in
-    let second : Stands code (c + 1) (fetches 0 v ++ (instr Ret 0 0 0 0 ∷ [])) = let n : suc c ≡ c + 1 = omega arith in
-    subst (λ k. Stands code k (fetches 0 v ++ (instr Ret 0 0 0 0 ∷ []))) n h.1 in
-    let two = fetch_runs code (at v x cells) (suc v) (c + 1) calls answers 0 v (run code 1 r)
+    let second : Stands code (c + 1) (fetches 0 v ++ (instr Ret 0 0 0 0 ∷ [])) =
+    let there : suc c ≡ c + 1 = omega arith in
+    subst (λ k. Stands code k (fetches 0 v ++ (instr Ret 0 0 0 0 ∷ []))) there h.1 in
+    let n = length (fetches 0 v) in
+    let two = fetch_runs code (at v x cells) (suc v) (c + 1) calls answers 0 v (run code 1 r) (omega arith)
     (omega arith) low (subst (λ n. n < 2 ^ 32) (sym own) small)
     (stands_first code (c + 1) (fetches 0 v) (instr Ret 0 0 0 0 ∷ []) second) one.0 in
-    let three = returned code (at v x cells) (suc v) (c + 1 + 2) calls answers x y (run code 2 (run code 1 r))
+    let three = returned code (at v x cells) (suc v) (c + 1 + n) calls answers x y (run code n (run code 1 r))
     (stands_second code (c + 1) (fetches 0 v) (instr Ret 0 0 0 0 ∷ []) second).0 two.stands (two.here ∙ own)
     (two.others 1 (λ z. absurd cc) (λ z. absurd cc) ∙ one.1) in
     subst (λ u. HasEnd (Answered x y) u × (u.calls ≡ calls))
-    (sym (two_parts code 1 3 r ∙ two_parts code 2 1 (run code 1 r))) three
+    (sym (two_parts code 1 (n + 1) r ∙ two_parts code n 1 (run code 1 r))) three
   where
     own : at v x cells v ≡ x
     own = grind (arith, nat_tests)
 
 answer_goes : (e f : Expression) (code : List Instr) (most v c total : ℕ) → v < 1023 → Fits v v e → Fits v (suc v) f
     → Stands code c (expression_code v e ++ (puts 4 v ++ (expression_code (suc v) f ++ last_code v)))
-    → length (expression_code v e) + (2 + (length (expression_code (suc v) f) + 4)) ≤ total
+    → length (expression_code v e) + (length (puts 4 v) + (length (expression_code (suc v) f)
+    + (1 + (length (fetches 0 v) + 1)))) ≤ total
     → Carries (λ s. m.answers s (value s.cells e) (value s.cells f)) code most v c total
 answer_goes e f code most v c total low fits fits2 h room cells calls answers turns r small a =
     by (value cells e) refl
@@ -682,7 +691,8 @@ answer_goes e f code most v c total low fits fits2 h room cells calls answers tu
     behind : Stands code (c + length (expression_code v e)) (puts 4 v ++ (expression_code (suc v) f ++ last_code v))
     behind = stands_second code c (expression_code v e) (puts 4 v ++ (expression_code (suc v) f ++ last_code v)) h
 
-    third : Stands code (c + length (expression_code v e) + 2) (expression_code (suc v) f ++ last_code v)
+    third : Stands code (c + length (expression_code v e) + length (puts 4 v))
+        (expression_code (suc v) f ++ last_code v)
     third =
         stands_second code (c + length (expression_code v e)) (puts 4 v)
         (expression_code (suc v) f ++ last_code v) behind
@@ -691,15 +701,16 @@ answer_goes e f code most v c total low fits fits2 h room cells calls answers tu
         IsAt cells v (c + length (expression_code v e)) calls answers
         (run code (length (expression_code v e)) r)
         → ComesTo (at v x cells) (suc v)
-        (c + length (expression_code v e) + 2) (length (expression_code (suc v) f)) calls
-        answers code (run code 2 (run code (length (expression_code v e)) r)) y
+        (c + length (expression_code v e) + length (puts 4 v)) (length (expression_code (suc v) f)) calls
+        answers code (run code (length (puts 4 v)) (run code (length (expression_code v e)) r)) y
         → Goes code most v c total r (going cells calls answers turns)
         (m.answers (going cells calls answers turns) (Some x) y)
     second x is None isnt k h2 =
         let first = length (expression_code v e) in
-        let all = two_parts code first (2 + h2.0) r ∙ two_parts code 2 h2.0 (run code first r) in
+        let n = length (puts 4 v) in
+        let all = two_parts code first (n + h2.0) r ∙ two_parts code n h2.0 (run code first r) in
         record {
-          steps = first + (2 + h2.0);
+          steps = first + (n + h2.0);
           used = 0;
           turns_are = omega arith;
           bound = omega (arith, h2.1, room);
@@ -711,14 +722,16 @@ answer_goes e f code most v c total low fits fits2 h room cells calls answers tu
         let other = length (expression_code (suc v) f) in
         let fine = value_small cells v v e x small.cells_are fits is in
         let fine2 = value_small (at v x cells) v (suc v) f y (all_small cells v x small.cells_are fine) fits2 is2 in
-        let all = two_parts code first (2 + (other + 4)) r
-        ∙ two_parts code 2 (other + 4) (run code first r)
-        ∙ two_parts code other 4 (run code 2 (run code first r)) in
-        let end = last_goes code cells v (c + first + 2 + other) calls answers x y
-        (run code other (run code 2 (run code first r))) (omega (arith, low)) fine fine2
-        (stands_second code (c + first + 2) (expression_code (suc v) f) (last_code v) third) h2.0 h2.1 in
+        let n = length (puts 4 v) in
+        let last = 1 + (length (fetches 0 v) + 1) in
+        let all = two_parts code first (n + (other + last)) r
+        ∙ two_parts code n (other + last) (run code first r)
+        ∙ two_parts code other last (run code (length (puts 4 v)) (run code first r)) in
+        let end = last_goes code cells v (c + first + n + other) calls answers x y
+        (run code other (run code (length (puts 4 v)) (run code first r))) (omega (arith, low)) fine fine2
+        (stands_second code (c + first + n) (expression_code (suc v) f) (last_code v) third) h2.0 h2.1 in
         record {
-          steps = first + (2 + (other + 4));
+          steps = first + (n + (other + last));
           used = 0;
           turns_are = omega arith;
           bound = omega (arith, room);
@@ -739,19 +752,20 @@ answer_goes e f code most v c total low fits fits2 h room cells calls answers tu
           calls_are = k.3;
         }
     by (Some x) is k =
-        let p = put_runs code cells v (c + length (expression_code v e)) calls answers x
-        (run code (length (expression_code v e)) r) (omega (arith, low))
+        let fine = value_small cells v v e x small.cells_are fits is in
+        let p = put_runs code cells v (c + length (expression_code v e)) calls answers 4 x
+        (run code (length (expression_code v e)) r) (λ z. absurd cc) (omega (arith, low)) fine
         (stands_first code (c + length (expression_code v e)) (puts 4 v)
         (expression_code (suc v) f ++ last_code v) behind) k.0 k.1 in
-        let fine = value_small cells v v e x small.cells_are fits is in
         subst (λ y. Goes code most v c total r (going cells calls answers turns)
         (m.answers (going cells calls answers turns) (Some x) y))
         (value_same cells v (suc v) v x f (omega arith) fits2)
         (second x is (value (at v x cells) f) refl k.0
-        (expressions_run f code (at v x cells) v (suc v) (c + length (expression_code v e) + 2)
-        calls answers (run code 2 (run code (length (expression_code v e)) r))
+        (expressions_run f code (at v x cells) v (suc v) (c + length (expression_code v e) + length (puts 4 v))
+        calls answers (run code (length (puts 4 v)) (run code (length (expression_code v e)) r))
         (all_small cells v x small.cells_are fine) fits2
-        (stands_first code (c + length (expression_code v e) + 2) (expression_code (suc v) f) (last_code v) third) p))
+        (stands_first code (c + length (expression_code v e) + length (puts 4 v)) (expression_code (suc v) f)
+        (last_code v) third) p))
 
 -- ---- statements in order
 
@@ -908,7 +922,7 @@ statements_go (m.Calls i id es p) code most v c fits h room =
     let b = registers_code 0 v 3 es in
     let first = a ++ (b ++ (instr Call 0 0 0 id ∷ puts 0 i)) in
     let rest = statements_code v (c + length first) p in
-    let long : length a + (length b + 3) ≡ length first =
+    let long : length a + (length b + (1 + length (puts 0 i))) ≡ length first =
     omega (
       arith,
       length-append a (b ++ (instr Call 0 0 0 id ∷ puts 0 i)),
@@ -917,7 +931,8 @@ statements_go (m.Calls i id es p) code most v c fits h room =
     of_length (does (m.Calls i id es p)) code most v c (length first + length rest)
     (length (first ++ rest)) (sym (length-append first rest))
     (then_statements (λ s. m.calls i id s (m.values s.cells es)) p code most v c (length first) (length rest)
-    (of_length (λ s. m.calls i id s (m.values s.cells es)) code most v c (length a + (length b + 3)) (length first) long
+    (of_length (λ s. m.calls i id s (m.values s.cells es)) code most v c
+    (length a + (length b + (1 + length (puts 0 i)))) (length first) long
     (λ cells calls answers turns r small there. call_goes i id es code most v c cells calls answers
     turns r fits.0 fits.1 fits.2
     (stands_first code c first rest h) small there))
@@ -999,6 +1014,7 @@ statements_go (m.Answers e f p) code most v c fits h room =
       length-append a (puts 4 v ++ (b ++ last_code v)),
       length-append (puts 4 v) (b ++ last_code v),
       length-append b (last_code v),
+      length-append (fetches 0 v) (instr Ret 0 0 0 0 ∷ []),
     ))
 
 pub statements_run : StatementsRun

@@ -5,7 +5,7 @@ use Rattle.std.proofs.Common.{arith, refl, subst, sym, ap, ◌∙◌, append_ass
 use Rattle.std.proofs.lemmas.Bool.Decides.{nat_tests}
 use Rattle.std.proofs.lemmas.List.{length-append}
 use Rattle.graft_texts.specs.declared.Instr.{Instr}
-use Rattle.graft_texts.specs.declared.Op.TheVariants.{Li, Stw, Ret}
+use Rattle.graft_texts.specs.declared.Op.TheVariants.{Li, Mov, Stw, Ret}
 use Rattle.graft_texts.specs.Boxed.{instr}
 use Rattle.graft_texts.specs.Objects.{at}
 use Rattle.graft_texts.specs.Machine.{word}
@@ -14,12 +14,12 @@ use Rattle.graft_texts.specs.LanguageMeaning as m
 use Rattle.graft_texts.specs.LanguageMeaning.{Program, End, Answered, Trapped, DividedByZero, Asks, Going, State, does}
 use Rattle.graft_texts.specs.LanguageMeaning.{at_end, first_state}
 use Rattle.graft_lang.specs.Code.{fetches, puts, statements_code, zeros_code, prologue, epilogue, program_code}
-use Rattle.graft_lang.specs.Placing.{Stands, slot_of, IsAt}
+use Rattle.graft_lang.specs.Placing.{Stands, word_of, slot_of, IsAt}
 use Rattle.graft_texts.specs.LanguageImages.{end_by, end_of, said, AreArguments, AreWords}
 use Rattle.graft_lang.specs.Going.{run, going, IsSmall, HasEnd, EndsSo, GoesBy, FitsProgram}
 use Rattle.graft_lang.specs.Behaves.{ProgramsRun}
-use Rattle.graft_lang.proofs.Running.{one_step, run_over, two_parts, stands_first, stands_second, put_is, fetch_runs}
-use Rattle.graft_lang.proofs.Slots.{put_slot}
+use Rattle.graft_lang.proofs.Slots.{one_step, run_over, two_parts, stands_first, stands_second, put_leaves, put_slot}
+use Rattle.graft_lang.proofs.Slots.{fetch_runs, unslotted}
 use Rattle.graft_lang.proofs.Statements.{statements_run, returned, two_turns}
 
 -- ---- the beginning
@@ -35,22 +35,6 @@ same_cells cells other top c calls answers r same a =
       calls_are = a.calls_are;
       answers_are = a.answers_are;
     }
-
--- a put keeps the registers but r5
-put_keeps : (code : List Instr) (cells : ℕ → ℕ) (top c : ℕ) (calls : List MadeCall)
-    (answers : List (ℕ × ℕ)) (reg slot j : ℕ) (r : CodeRun)
-    → slot < 1024 → j ≢ 5 → Stands code c (puts reg slot) → IsAt cells top c calls answers r →
-    (run code 2 r).machine.regs j ≡ r.machine.regs j
-put_keeps code cells top c calls answers reg slot j r low other h a =
-    let first : slice_get code r.machine.pc ≡ Some (instr Li 5 0 0 (4 * slot)) =
-    subst (λ n. slice_get code n ≡ Some (instr Li 5 0 0 (4 * slot))) (sym a.place) h.0 in
-    let second : slice_get code (r.machine.pc + 1) ≡ Some (instr Stw reg 5 0 0) =
-    subst (λ n. slice_get code n ≡ Some (instr Stw reg 5 0 0)) (omega (arith, a.place)) h.1.0 in
-    ap (λ (u : CodeRun). u.machine.regs j) (put_is code reg slot r a.going low first second)
-    ∙ elsewhere (word (4 * slot)) r.machine.regs
-  where
-    elsewhere : (x : ℕ) (regs : ℕ → ℕ) → at 5 x regs j ≡ regs j
-    elsewhere x regs = grind (arith, nat_tests, other)
 
 -- zeros in so many slots from this one on
 abbrev zeroed : (i count : ℕ) → (ℕ → ℕ) → ℕ → ℕ
@@ -87,17 +71,20 @@ zeros_run zero i code cells top c calls answers r low h a z =
 zeros_run (suc n) i code cells top c calls answers r low h a z =
     let first = stands_first code c (puts 4 i) (zeros_code (suc i) n) h in
     let low_i : i < 1024 = omega (arith, low) in
-    let p = put_slot code cells top c calls answers 4 i 0 r low_i first a z in
+    let k = length (puts 4 i) in
+    let p = put_slot code cells top top c calls answers 4 i 0 r (λ e. absurd cc) low_i (omega arith) (λ j less e. less)
+    first a z in
+    let l = put_leaves code c 4 i 0 r a.going a.place (λ e. absurd cc) low_i (omega arith) z first in
     let len = length (zeros_code (suc i) n) in
-    let long : length (puts 4 i ++ zeros_code (suc i) n) ≡ 2 + len = length-append (puts 4 i) (zeros_code (suc i) n) in
-    let there : c + 2 + len ≡ c + (2 + len) = omega arith in
-    subst (λ k. IsAt (zeroed (suc i) n (at i 0 cells)) top (c + k) calls answers (run code k r)) (sym long)
-    (subst (λ u. IsAt (zeroed (suc i) n (at i 0 cells)) top (c + (2 + len)) calls answers u)
-    (sym (two_parts code 2 len r))
-    (subst (λ q. IsAt (zeroed (suc i) n (at i 0 cells)) top q calls answers (run code len (run code 2 r))) there
-    (zeros_run n (suc i) code (at i 0 cells) top (c + 2) calls answers (run code 2 r) (omega (arith, low))
+    let long : length (puts 4 i ++ zeros_code (suc i) n) ≡ k + len = length-append (puts 4 i) (zeros_code (suc i) n) in
+    let there : c + k + len ≡ c + (k + len) = omega arith in
+    subst (λ m. IsAt (zeroed (suc i) n (at i 0 cells)) top (c + m) calls answers (run code m r)) (sym long)
+    (subst (λ u. IsAt (zeroed (suc i) n (at i 0 cells)) top (c + (k + len)) calls answers u)
+    (sym (two_parts code k len r))
+    (subst (λ q. IsAt (zeroed (suc i) n (at i 0 cells)) top q calls answers (run code len (run code k r))) there
+    (zeros_run n (suc i) code (at i 0 cells) top (c + k) calls answers (run code k r) (omega (arith, low))
     (stands_second code c (puts 4 i) (zeros_code (suc i) n) h) p
-    (put_keeps code cells top c calls answers 4 i 4 r low_i (λ e. absurd cc) first a ∙ z))))
+    (l.kept 4 (omega arith) (λ e. absurd cc) ∙ z))))
 
 -- r4 becomes 0
 clear_runs : (code : List Instr) (cells : ℕ → ℕ) (top c : ℕ) (calls : List MadeCall)
@@ -112,7 +99,8 @@ clear_runs code cells top c calls answers r h a =
       record {
         place = ap (λ n. n + 1) a.place;
         going = a.going;
-        slots = a.slots;
+        slots = λ i below. ap (λ y. cond (nat_lt i 7) y (word_of r.machine.memory i))
+            (unslotted 4 i (word 0) r.machine.regs (omega arith)) ∙ a.slots i below;
         calls_are = a.calls_are;
         answers_are = a.answers_are;
       },
@@ -129,25 +117,55 @@ four cells xs =
 abbrev first_cells : List ℕ → ℕ → ℕ
 first_cells xs i = cond (nat_lt i 4) (slice_index xs i) 0
 
+-- an argument goes to its slot, a register; the other arguments stay
+put_argument : (code : List Instr) (cells : ℕ → ℕ) (top c : ℕ) (answers : List (ℕ × ℕ)) (i x : ℕ)
+    (r : CodeRun) → i < 4 → x < 2 ^ 32 → Stands code c (instr Mov (7 + i) i 0 0 ∷ []) →
+    IsAt cells top c [] answers r → r.machine.regs i ≡ x →
+    IsAt (at i x cells) top (c + 1) [] answers (run code 1 r)
+    × ((j : ℕ) → j < 4 → (run code 1 r).machine.regs j ≡ r.machine.regs j)
+put_argument code cells top c answers i x r low small h a e = by (nat_lt i 7) (inside i low) refl
+  where
+    inside : (i : ℕ) → i < 4 → nat_lt i 7 ≡ true
+    inside i k = grind (arith, nat_tests, k)
+
+    apart : (i : ℕ) → i < 4 → i ≢ 5
+    apart i k = grind (arith, nat_tests, k)
+
+    by : (b : Bool) → b ≡ true → nat_lt i 7 ≡ b → IsAt (at i x cells) top (c + 1) [] answers (run code 1 r)
+        × ((j : ℕ) → j < 4 → (run code 1 r).machine.regs j ≡ r.machine.regs j)
+    by false is same = absurd cc
+    by true is same =
+        let code_is : puts i i ≡ instr Mov (7 + i) i 0 0 ∷ [] =
+        ap (λ b. cond b (instr Mov (7 + i) i 0 0 ∷ []) (instr Li 5 0 0 (4 * i) ∷ instr Stw i 5 0 0 ∷ [])) same in
+        let one : length (puts i i) ≡ 1 = ap (λ (ks : List Instr). length ks) code_is in
+        let stands = subst (λ is. Stands code c is) (sym code_is) h in
+        let p = put_slot code cells top top c [] answers i i x r (apart i low) (omega (arith, low)) small
+        (λ j less k. less) stands a e in
+        let l = put_leaves code c i i x r a.going a.place (apart i low) (omega (arith, low)) small e stands in (
+          subst (λ n. IsAt (at i x cells) top (c + n) [] answers (run code n r)) one p,
+          λ j k. subst (λ n. (run code n r).machine.regs j ≡ r.machine.regs j) one
+              (l.kept j (omega (arith, k)) (apart j k)),
+        )
+
 begins : (v : ℕ) (code : List Instr) (segment : ℕ → ℕ) (xs : List ℕ) (answers : List (ℕ × ℕ)) →
-    4 ≤ v → v < 1021 → Stands code 0 (prologue v)
+    4 ≤ v → v < 1021 → AreArguments xs → Stands code 0 (prologue v)
     → IsAt (first_cells xs) v (length (prologue v)) [] answers
     (run code (length (prologue v)) (first_run 262144 segment xs answers))
-begins v code segment xs answers least low h =
+begins v code segment xs answers least low fine h =
     let r = first_run 262144 segment xs answers in
-    let base : ℕ → ℕ = λ i. slot_of segment i in
+    let base : ℕ → ℕ = λ i. slot_of r.machine i in
     let tail4 = instr Li 4 0 0 0 ∷ zeros_code 4 (v - 4) in
     let tail3 = puts 3 3 ++ tail4 in
     let tail2 = puts 2 2 ++ tail3 in
     let tail1 = puts 1 1 ++ tail2 in
     let h1 = stands_second code 0 (puts 0 0) tail1 h in
-    let h2 = stands_second code 2 (puts 1 1) tail2 h1 in
-    let h3 = stands_second code 4 (puts 2 2) tail3 h2 in
-    let h4 = stands_second code 6 (puts 3 3) tail4 h3 in
+    let h2 = stands_second code 1 (puts 1 1) tail2 h1 in
+    let h3 = stands_second code 2 (puts 2 2) tail3 h2 in
+    let h4 = stands_second code 3 (puts 3 3) tail4 h3 in
     let s0 = stands_first code 0 (puts 0 0) tail1 h in
-    let s1 = stands_first code 2 (puts 1 1) tail2 h1 in
-    let s2 = stands_first code 4 (puts 2 2) tail3 h2 in
-    let s3 = stands_first code 6 (puts 3 3) tail4 h3 in
+    let s1 = stands_first code 1 (puts 1 1) tail2 h1 in
+    let s2 = stands_first code 2 (puts 2 2) tail3 h2 in
+    let s3 = stands_first code 3 (puts 3 3) tail4 h3 in
     let a0 : IsAt base v 0 [] answers r = record {
       place = refl;
       going = refl;
@@ -155,31 +173,28 @@ begins v code segment xs answers least low h =
       calls_are = refl;
       answers_are = refl;
     } in
-    let r1 = run code 2 r in
-    let a1 = put_slot code base v 0 [] answers 0 0 (slice_index xs 0) r (omega arith) s0 a0 refl in
-    let k11 = put_keeps code base v 0 [] answers 0 0 1 r (omega arith) (λ e. absurd cc) s0 a0 in
-    let k12 = put_keeps code base v 0 [] answers 0 0 2 r (omega arith) (λ e. absurd cc) s0 a0 in
-    let k13 = put_keeps code base v 0 [] answers 0 0 3 r (omega arith) (λ e. absurd cc) s0 a0 in
+    let p1 = put_argument code base v 0 answers 0 (slice_index xs 0) r (omega arith) (fine 0) s0 a0 refl in
+    let r1 = run code 1 r in
     let c1 = at 0 (slice_index xs 0) base in
-    let r2 = run code 2 r1 in
-    let a2 = put_slot code c1 v 2 [] answers 1 1 (slice_index xs 1) r1 (omega arith) s1 a1 k11 in
-    let k22 = put_keeps code c1 v 2 [] answers 1 1 2 r1 (omega arith) (λ e. absurd cc) s1 a1 ∙ k12 in
-    let k23 = put_keeps code c1 v 2 [] answers 1 1 3 r1 (omega arith) (λ e. absurd cc) s1 a1 ∙ k13 in
+    let p2 = put_argument code c1 v 1 answers 1 (slice_index xs 1) r1 (omega arith) (fine 1) s1 p1.0
+    (p1.1 1 (omega arith)) in
+    let r2 = run code 1 r1 in
     let c2 = at 1 (slice_index xs 1) c1 in
-    let r3 = run code 2 r2 in
-    let a3 = put_slot code c2 v 4 [] answers 2 2 (slice_index xs 2) r2 (omega arith) s2 a2 k22 in
-    let k33 = put_keeps code c2 v 4 [] answers 2 2 3 r2 (omega arith) (λ e. absurd cc) s2 a2 ∙ k23 in
+    let p3 = put_argument code c2 v 2 answers 2 (slice_index xs 2) r2 (omega arith) (fine 2) s2 p2.0
+    (p2.1 2 (omega arith) ∙ p1.1 2 (omega arith)) in
+    let r3 = run code 1 r2 in
     let c3 = at 2 (slice_index xs 2) c2 in
-    let r4 = run code 2 r3 in
-    let a4 = put_slot code c3 v 6 [] answers 3 3 (slice_index xs 3) r3 (omega arith) s3 a3 k33 in
-    let z = clear_runs code (four base xs) v 8 [] answers r4 h4.0 a4 in
+    let p4 = put_argument code c3 v 3 answers 3 (slice_index xs 3) r3 (omega arith) (fine 3) s3 p3.0
+    (p3.1 3 (omega arith) ∙ p2.1 3 (omega arith) ∙ p1.1 3 (omega arith)) in
+    let r4 = run code 1 r3 in
+    let z = clear_runs code (four base xs) v 4 [] answers r4 h4.0 p4.0 in
     let n = length (zeros_code 4 (v - 4)) in
-    let last = zeros_run (v - 4) 4 code (four base xs) v 9 [] answers (run code 1 r4)
+    let last = zeros_run (v - 4) 4 code (four base xs) v 5 [] answers (run code 1 r4)
     (omega (arith, low, least)) h4.1 z.0 z.1 in
-    let parts = two_parts code 2 (2 + (2 + (2 + (1 + n)))) r
-    ∙ two_parts code 2 (2 + (2 + (1 + n))) r1 ∙ two_parts code 2 (2 + (1 + n)) r2
-    ∙ two_parts code 2 (1 + n) r3 ∙ two_parts code 1 n r4 in
-    let long : 2 + (2 + (2 + (2 + (1 + n)))) ≡ length (prologue v) =
+    let parts = two_parts code 1 (1 + (1 + (1 + (1 + n)))) r
+    ∙ two_parts code 1 (1 + (1 + (1 + n))) r1 ∙ two_parts code 1 (1 + (1 + n)) r2
+    ∙ two_parts code 1 (1 + n) r3 ∙ two_parts code 1 n r4 in
+    let long : 1 + (1 + (1 + (1 + (1 + n)))) ≡ length (prologue v) =
     omega (
       arith,
       length-append (puts 0 0) tail1,
@@ -187,11 +202,11 @@ begins v code segment xs answers least low h =
       length-append (puts 2 2) tail3,
       length-append (puts 3 3) tail4,
     ) in
-    let place : 9 + n ≡ 2 + (2 + (2 + (2 + (1 + n)))) = omega arith in
+    let place : 5 + n ≡ 1 + (1 + (1 + (1 + (1 + n)))) = omega arith in
     same_cells (zeroed 4 (v - 4) (four base xs)) (first_cells xs) v (length (prologue v)) [] answers
     (run code (length (prologue v)) r) (λ j less. cells_are base j less)
     (subst (λ k. IsAt (zeroed 4 (v - 4) (four base xs)) v k [] answers (run code k r)) long
-    (subst (λ u. IsAt (zeroed 4 (v - 4) (four base xs)) v (2 + (2 + (2 + (2 + (1 + n))))) [] answers u) (sym parts)
+    (subst (λ u. IsAt (zeroed 4 (v - 4) (four base xs)) v (1 + (1 + (1 + (1 + (1 + n))))) [] answers u) (sym parts)
     (subst (λ q. IsAt (zeroed 4 (v - 4) (four base xs)) v q [] answers (run code n (run code 1 r4))) place last)))
   where
     argument : (base : ℕ → ℕ) (j : ℕ) → j < 4 → four base xs j ≡ slice_index xs j
@@ -226,20 +241,20 @@ begins v code segment xs answers least low h =
 finishes : (code : List Instr) (cells : ℕ → ℕ) (v c : ℕ) (calls : List MadeCall)
     (answers : List (ℕ × ℕ)) (r : CodeRun) → 4 ≤ v → ((i : ℕ) → cells i < 2 ^ 32)
     → Stands code c epilogue → IsAt cells v c calls answers r
-    → HasEnd (Answered (cells 0) (cells 1)) (run code 5 r) × ((run code 5 r).calls ≡ calls)
+    → HasEnd (Answered (cells 0) (cells 1)) (run code 3 r) × ((run code 3 r).calls ≡ calls)
 finishes code cells v c calls answers r least small h a =
     let second = stands_second code c (fetches 0 0) (fetches 1 1 ++ (instr Ret 0 0 0 0 ∷ [])) h in
     let f =
-    fetch_runs code cells v c calls answers 0 0 r (omega (arith, least)) (omega arith) (small 0)
+    fetch_runs code cells v c calls answers 0 0 r (omega arith) (omega (arith, least)) (omega arith) (small 0)
     (stands_first code c (fetches 0 0) (fetches 1 1 ++ (instr Ret 0 0 0 0 ∷ [])) h) a in
-    let g = fetch_runs code cells v (c + 2) calls answers 1 1 (run code 2 r)
-    (omega (arith, least)) (omega arith) (small 1)
-    (stands_first code (c + 2) (fetches 1 1) (instr Ret 0 0 0 0 ∷ []) second) f.stands in
-    let e = returned code cells v (c + 2 + 2) calls answers (cells 0) (cells 1) (run code 2 (run code 2 r))
-    (stands_second code (c + 2) (fetches 1 1) (instr Ret 0 0 0 0 ∷ []) second).0 g.stands
+    let g = fetch_runs code cells v (c + 1) calls answers 1 1 (run code 1 r)
+    (omega arith) (omega (arith, least)) (omega arith) (small 1)
+    (stands_first code (c + 1) (fetches 1 1) (instr Ret 0 0 0 0 ∷ []) second) f.stands in
+    let e = returned code cells v (c + 1 + 1) calls answers (cells 0) (cells 1) (run code 1 (run code 1 r))
+    (stands_second code (c + 1) (fetches 1 1) (instr Ret 0 0 0 0 ∷ []) second).0 g.stands
     (g.others 0 (λ z. absurd cc) (λ z. absurd cc) ∙ f.here) g.here in
     subst (λ u. HasEnd (Answered (cells 0) (cells 1)) u × (u.calls ≡ calls))
-    (sym (two_parts code 2 3 r ∙ two_parts code 2 1 (run code 2 r))) e
+    (sym (two_parts code 1 2 r ∙ two_parts code 1 1 (run code 1 r))) e
 
 -- ---- code stands in itself
 
@@ -340,9 +355,9 @@ comes_ended end code first len n room r s t turns fits h =
 comes_by : (code : List Instr) (v first len n : ℕ) (r : CodeRun) (s t : State) → 4 ≤ v →
     s.turns ≡ n → Stands code (first + len) epilogue
     → (o : Option End) → t.ended ≡ o → GoesBy o code len v first len (run code first r) s t
-    → Comes code (first + (len + n * len) + 5) n r (at_end t).ended (at_end t).calls
+    → Comes code (first + (len + n * len) + 3) n r (at_end t).ended (at_end t).calls
 comes_by code v first len n r s t least turns h None e g =
-    let all = two_parts code first (g.steps + 5) r ∙ two_parts code g.steps 5 (run code first r) in
+    let all = two_parts code first (g.steps + 3) r ∙ two_parts code g.steps 3 (run code first r) in
     let f = finishes code t.cells v (first + len) t.calls t.answers
     (run code g.steps (run code first r)) least g.small.cells_are h g.stands in
     let same : m.ends t (Answered (t.cells 0) (t.cells 1)) ≡ at_end t =
@@ -353,8 +368,8 @@ comes_by code v first len n r s t least turns h None e g =
     let two = two_turns g.used t.turns len in
     let n_is : n ≡ g.used + t.turns = sym turns ∙ g.turns_are in
     let times : n * len ≡ (g.used + t.turns) * len = ap (λ k. k * len) n_is in
-    subst (λ (u : State). Comes code (first + (len + n * len) + 5) n r u.ended u.calls) same (
-      first + (g.steps + 5),
+    subst (λ (u : State). Comes code (first + (len + n * len) + 3) n r u.ended u.calls) same (
+      first + (g.steps + 3),
       omega (arith, g.bound, two, times),
       subst (λ u. HasEnd (Answered (t.cells 0) (t.cells 1)) u) (sym all) f.0,
       ap (λ (u : CodeRun). u.calls) all ∙ f.1,
@@ -365,30 +380,30 @@ comes_by code v first len n r s t least turns h (Some end) e g =
       | Some x ↦ t
       | None ↦ m.ends t (Answered (t.cells 0) (t.cells 1))
     ]) (sym e) in
-    subst (λ (u : State). Comes code (first + (len + n * len) + 5) n r u.ended u.calls) same
-    (subst (λ (o : Option End). Comes code (first + (len + n * len) + 5) n r o t.calls) (sym e) (by end g))
+    subst (λ (u : State). Comes code (first + (len + n * len) + 3) n r u.ended u.calls) same
+    (subst (λ (o : Option End). Comes code (first + (len + n * len) + 3) n r o t.calls) (sym e) (by end g))
   where
-    room : first + (len + n * len) ≤ first + (len + n * len) + 5
+    room : first + (len + n * len) ≤ first + (len + n * len) + 3
     room = omega arith
 
     by : (end : End) → GoesBy (Some end) code len v first len (run code first r) s t →
-        Comes code (first + (len + n * len) + 5) n r (Some end) t.calls
+        Comes code (first + (len + n * len) + 3) n r (Some end) t.calls
     by Going k = (
       first + k.steps,
       omega (arith, k.more, turns),
       ap (λ (u : CodeRun). u.ended)
           (two_parts code first k.steps r) ∙ k.lasts,
     )
-    by (Answered x y) k = comes_ended (Answered x y) code first len n (first + (len + n * len) + 5) r s t turns room k
-    by (Trapped x) k = comes_ended (Trapped x) code first len n (first + (len + n * len) + 5) r s t turns room k
-    by DividedByZero k = comes_ended DividedByZero code first len n (first + (len + n * len) + 5) r s t turns room k
-    by (Asks x) k = comes_ended (Asks x) code first len n (first + (len + n * len) + 5) r s t turns room k
+    by (Answered x y) k = comes_ended (Answered x y) code first len n (first + (len + n * len) + 3) r s t turns room k
+    by (Trapped x) k = comes_ended (Trapped x) code first len n (first + (len + n * len) + 3) r s t turns room k
+    by DividedByZero k = comes_ended DividedByZero code first len n (first + (len + n * len) + 3) r s t turns room k
+    by (Asks x) k = comes_ended (Asks x) code first len n (first + (len + n * len) + 3) r s t turns room k
 
 comes : (v : ℕ) (p : Program) (segment : ℕ → ℕ) (xs : List ℕ) (answers : List (ℕ × ℕ)) (n : ℕ) →
     4 ≤ v → v < 1021 → FitsProgram v p
     → AreArguments xs → AreWords answers
     → Comes (program_code v p) (length (prologue v) + (length (statements_code v
-    (length (prologue v)) p) + n * length (statements_code v (length (prologue v)) p)) + 5) n
+    (length (prologue v)) p) + n * length (statements_code v (length (prologue v)) p)) + 3) n
     (first_run 262144 segment xs answers) (said p xs answers n).ended (said p xs answers n).calls
 comes v p segment xs answers n least low fits small words =
     let first = prologue v in
@@ -401,7 +416,7 @@ comes v p segment xs answers n least low fits small words =
     subst (λ c. Stands code c (stmts ++ epilogue)) here behind in
     let r = first_run 262144 segment xs answers in
     let s = going (first_cells xs) [] answers n in
-    let a = begins v code segment xs answers least low (stands_first code 0 first (stmts ++ epilogue) whole) in
+    let a = begins v code segment xs answers least low small (stands_first code 0 first (stmts ++ epilogue) whole) in
     let fine : IsSmall s = record { cells_are = λ i. cell_small i (nat_lt i 4); answers_are = words } in
     let g = statements_run p code (length stmts) v (length first) (first_cells xs) [] answers n
     (run code (length first) r) fine fits
@@ -470,11 +485,11 @@ back_by code room n r end calls other is (Some e) h = by e h
     by (Asks x) c = ended (Asks x) c (λ z. cc)
 
 -- all instructions of each turn, and once more
-enough : (n first len : ℕ) → first + (len + n * len) + 5 ≤ (n + 1) * (first + (len + 5))
+enough : (n first len : ℕ) → first + (len + n * len) + 3 ≤ (n + 1) * (first + (len + 3))
 enough n first len =
-    let a : (n + 1) * (first + (len + 5)) ≡ n * (first + (len + 5)) + 1 * (first + (len + 5)) =
-    two_turns n 1 (first + (len + 5)) in
-    let b : n * (first + (len + 5)) ≡ n * len + n * (first + 5) = grind arith in omega (arith, a, b)
+    let a : (n + 1) * (first + (len + 3)) ≡ n * (first + (len + 3)) + 1 * (first + (len + 3)) =
+    two_turns n 1 (first + (len + 3)) in
+    let b : n * (first + (len + 3)) ≡ n * len + n * (first + 3) = grind arith in omega (arith, a, b)
 
 -- how many instructions the statements of a program have
 abbrev body_length : (v : ℕ) → Program → ℕ
@@ -485,21 +500,21 @@ programs_run v p least low fits =
     record {
       forth = λ segment xs answers n end small words other is.
           forth_by (program_code v p) (length (prologue v) + (body_length v p + n * body_length v p)
-          + 5) n ((n + 1) * length (program_code v p))
+          + 3) n ((n + 1) * length (program_code v p))
           (first_run 262144 segment xs answers) end (said p xs answers n).calls other
-          (subst (λ k. length (prologue v) + (body_length v p + n * body_length v p) + 5
+          (subst (λ k. length (prologue v) + (body_length v p + n * body_length v p) + 3
           ≤ (n + 1) * k) (sym long) (enough n (length (prologue v)) (body_length v p)))
           (subst (λ (o : Option End). Comes (program_code v p)
-          (length (prologue v) + (body_length v p + n * body_length v p) + 5) n
+          (length (prologue v) + (body_length v p + n * body_length v p) + 3) n
           (first_run 262144 segment xs answers) o (said p xs answers n).calls)
           is (comes v p segment xs answers n least low fits small words));
       back = λ segment xs answers n end small words other is.
           back_by (program_code v p) (length (prologue v) + (body_length v p + n * body_length v p)
-          + 5) n (first_run 262144 segment xs answers) end (said p xs answers n).calls other is
+          + 3) n (first_run 262144 segment xs answers) end (said p xs answers n).calls other is
           (said p xs answers n).ended (comes v p segment xs answers n least low fits small words);
     }
   where
-    long : length (program_code v p) ≡ length (prologue v) + (length (statements_code v (length (prologue v)) p) + 5)
+    long : length (program_code v p) ≡ length (prologue v) + (length (statements_code v (length (prologue v)) p) + 3)
     long =
         omega (
           arith,

@@ -24,7 +24,8 @@ use Rattle.graft_texts.specs.LanguageGrammar.{spelled_arguments, spelled_stateme
 use Rattle.graft_texts.specs.LanguageReading.{number_of}
 use Rattle.graft_texts.specs.LanguageMeaning as l
 use Rattle.graft_texts.specs.LanguageMeaning.{numbered_expression, numbered}
-use Rattle.graft_lang.specs.Code.{fetches, puts, expression_code, arguments_code, statements_code}
+use Rattle.graft_lang.specs.Code.{fetches, puts}
+use Rattle.graft_lang.specs.Code.{expression_code, arguments_code, statements_code}
 use Rattle.graft_lang.specs.Writing.{Writing, skipped, appended, with_first, patched, WritesExpression}
 use Rattle.graft_lang.specs.Writing.{WritesOperation, callable_next, behind_callable, symbol_next, behind_symbol}
 use Rattle.graft_lang.specs.Writing.{closes_block, is_block_end, call_code, when_code}

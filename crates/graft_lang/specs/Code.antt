@@ -1,6 +1,7 @@
--- The code of a program. Variable i is kept in word i of the segment, operands in the words behind
--- the variables. r4 has values, r5 addresses, r6 left operands; r14 and r15 are never named.
-use Rattle.std.specs.Prelude.{ℕ, zero, suc, ◌+◌, ◌-◌, ◌*◌, List, [], ◌∷◌, ◌++◌, length}
+-- The code of a program. Variables are numbered slots, and operands take the slots behind them. The
+-- first seven slots are r7 to r13, slot i of the others is word i of the segment. r4 has values, r5
+-- addresses, r6 operands that are loaded; r14 and r15 are never named.
+use Rattle.std.specs.Prelude.{ℕ, zero, suc, ◌+◌, ◌-◌, ◌*◌, cond, nat_lt, List, [], ◌∷◌, ◌++◌, length}
 use Rattle.graft_texts.specs.declared.Instr.{Instr}
 use Rattle.graft_texts.specs.declared.Op.TheVariants.{Li, Mov, Ldw, Stw, Add, Sub, Mul, And, Or, Xor, Shl, Shr}
 use Rattle.graft_texts.specs.declared.Op.TheVariants.{Divu, Remu, Sltu, Jmp, Jz, Call, Trap, Ret}
@@ -11,36 +12,71 @@ use Rattle.graft_texts.specs.LanguageMeaning.{Expression, Number, Variable, Bina
 use Rattle.graft_texts.specs.LanguageMeaning.{When}
 use Rattle.graft_texts.specs.LanguageMeaning.{Either, Loops, Traps, Answers}
 
--- the word of a slot of the segment to a register: r5 has its address
+-- a slot to a register: r5 has the address of a word of the segment
 abbrev pub fetches : (reg slot : ℕ) → List Instr
-fetches reg slot = instr Li 5 0 0 (4 * slot) ∷ instr Ldw reg 5 0 0 ∷ []
+fetches reg slot =
+    cond (nat_lt slot 7) (instr Mov reg (7 + slot) 0 0 ∷ [])
+    (instr Li 5 0 0 (4 * slot) ∷ instr Ldw reg 5 0 0 ∷ [])
 
--- a register to the word of a slot of the segment: r5 has its address
+-- a register to a slot: r5 has the address of a word of the segment
 abbrev pub puts : (reg slot : ℕ) → List Instr
-puts reg slot = instr Li 5 0 0 (4 * slot) ∷ instr Stw reg 5 0 0 ∷ []
+puts reg slot =
+    cond (nat_lt slot 7) (instr Mov (7 + slot) reg 0 0 ∷ [])
+    (instr Li 5 0 0 (4 * slot) ∷ instr Stw reg 5 0 0 ∷ [])
 
--- r4 becomes r6 op r4; two values are equal where their difference is below 1
-abbrev pub operator_code : Operator → List Instr
-operator_code operator.Plus = instr Add 4 6 4 0 ∷ []
-operator_code operator.Minus = instr Sub 4 6 4 0 ∷ []
-operator_code operator.Times = instr Mul 4 6 4 0 ∷ []
-operator_code operator.Over = instr Divu 4 6 4 0 ∷ []
-operator_code operator.Rest = instr Remu 4 6 4 0 ∷ []
-operator_code operator.And = instr And 4 6 4 0 ∷ []
-operator_code operator.Or = instr Or 4 6 4 0 ∷ []
-operator_code operator.Xor = instr Xor 4 6 4 0 ∷ []
-operator_code operator.ShiftLeft = instr Shl 4 6 4 0 ∷ []
-operator_code operator.ShiftRight = instr Shr 4 6 4 0 ∷ []
-operator_code operator.Less = instr Sltu 4 6 4 0 ∷ []
-operator_code operator.Equal = instr Sub 4 6 4 0 ∷ instr Li 5 0 0 1 ∷ instr Sltu 4 4 5 0 ∷ []
+-- a slot that no register holds to a register
+abbrev pub loads : (reg slot : ℕ) → List Instr
+loads reg slot = cond (nat_lt slot 7) [] (instr Li 5 0 0 (4 * slot) ∷ instr Ldw reg 5 0 0 ∷ [])
+
+-- the register that has a slot then
+abbrev pub source : (reg slot : ℕ) → ℕ
+source reg slot = cond (nat_lt slot 7) (7 + slot) reg
+
+-- r4 becomes the left register op the right one; two values are equal where their difference is
+-- below 1
+abbrev pub operator_code : Operator → (left right : ℕ) → List Instr
+operator_code operator.Plus left right = instr Add 4 left right 0 ∷ []
+operator_code operator.Minus left right = instr Sub 4 left right 0 ∷ []
+operator_code operator.Times left right = instr Mul 4 left right 0 ∷ []
+operator_code operator.Over left right = instr Divu 4 left right 0 ∷ []
+operator_code operator.Rest left right = instr Remu 4 left right 0 ∷ []
+operator_code operator.And left right = instr And 4 left right 0 ∷ []
+operator_code operator.Or left right = instr Or 4 left right 0 ∷ []
+operator_code operator.Xor left right = instr Xor 4 left right 0 ∷ []
+operator_code operator.ShiftLeft left right = instr Shl 4 left right 0 ∷ []
+operator_code operator.ShiftRight left right = instr Shr 4 left right 0 ∷ []
+operator_code operator.Less left right = instr Sltu 4 left right 0 ∷ []
+operator_code operator.Equal left right =
+    instr Sub 4 left right 0 ∷ instr Li 5 0 0 1 ∷ instr Sltu 4 4 5 0 ∷ []
+
+-- the register in which an expression is a left operand
+abbrev pub left_register : Expression → ℕ
+left_register (Number n) = 4
+left_register (Variable i) = source 4 i
+left_register (Binary a op b) = 4
+
+-- the code of a left operand, whose value is brought to r4 by this code
+abbrev pub left_code : Expression → (own : List Instr) → List Instr
+left_code (Number n) own = own
+left_code (Variable i) own = loads 4 i
+left_code (Binary a op b) own = own
+
+-- the code of an operation behind its left operand, which this register has; the value of a right
+-- operand that is an operation is brought to r4 by this code, while the left one waits
+abbrev pub right_code : (top : ℕ) → Operator → (left : ℕ) → Expression → (own : List Instr)
+    → List Instr
+right_code top op left (Number n) own = instr Li 6 0 0 n ∷ operator_code op left 6
+right_code top op left (Variable i) own = loads 6 i ++ operator_code op left (source 6 i)
+right_code top op left (Binary a op' b) own =
+    puts left top ++ (own ++ (loads 6 top ++ operator_code op (source 6 top) 4))
 
 -- the value comes to r4; slots from `top` on are free
 abbrev pub expression_code : (top : ℕ) → Expression → List Instr
 expression_code top (Number n) = instr Li 4 0 0 n ∷ []
 expression_code top (Variable i) = fetches 4 i
 expression_code top (Binary a op b) =
-    expression_code top a ++ (puts 4 top ++ (expression_code (suc top) b
-    ++ (fetches 6 top ++ operator_code op)))
+    left_code a (expression_code top a)
+    ++ right_code top op (left_register a) b (expression_code (suc top) b)
 
 -- the arguments of a call come to the slots from `top` on
 abbrev pub arguments_code : (top : ℕ) → List Expression → List Instr

@@ -1,8 +1,8 @@
 -- How the code of a program and its meaning belong together while it runs.
-use Rattle.std.specs.Prelude.{◌≡◌, ℕ, suc, ◌+◌, ◌*◌, ◌^◌, ◌<◌, ◌≤◌, List, [], ◌∷◌, length, slice_get, Option}
-use Rattle.std.specs.Prelude.{Some, None, ⊤}
+use Rattle.std.specs.Prelude.{◌≡◌, ℕ, suc, ◌+◌, ◌*◌, ◌^◌, ◌<◌, ◌≤◌, cond, nat_lt, List, [], ◌∷◌, length, slice_get}
+use Rattle.std.specs.Prelude.{Option, Some, None, ⊤}
 use Rattle.graft_texts.specs.declared.Instr.{Instr}
-use Rattle.graft_texts.specs.Machine.{Word, load, masked_place}
+use Rattle.graft_texts.specs.Machine.{Machine, Word, load, masked_place}
 use Rattle.graft_texts.specs.Runs.{CodeRun, MadeCall, AtDivision, run_by}
 use Rattle.graft_texts.specs.LanguageMeaning.{Expression, Number, Variable, Binary, value}
 use Rattle.graft_lang.specs.Code.{expression_code}
@@ -19,30 +19,39 @@ abbrev pub Stands : List Instr → ℕ → List Instr → Type 0
 Stands code c [] = ⊤
 Stands code c (i ∷ is) = (slice_get code c ≡ Some i) × Stands code (suc c) is
 
--- the word of a slot
-abbrev pub slot_of : (ℕ → ℕ) → ℕ → ℕ
-slot_of memory i = load Word memory (4 * i)
+-- a word of memory
+abbrev pub word_of : (ℕ → ℕ) → ℕ → ℕ
+word_of memory i = load Word memory (4 * i)
 
--- a run stands at a place, with these words in the slots below `top`, these calls made and these
+-- what a slot has: a register, or a word of the segment
+abbrev pub slot_of : Machine → ℕ → ℕ
+slot_of m i = cond (nat_lt i 7) (m.regs (7 + i)) (word_of m.memory i)
+
+-- a run stands at a place, with these values in the slots below `top`, these calls made and these
 -- answers left
 pub record IsAt (cells : ℕ → ℕ) (top c : ℕ) (calls : List MadeCall) (answers : List (ℕ × ℕ))
     (r : CodeRun) : Type 0 where
   pub place : r.machine.pc ≡ c
   pub going : r.ended ≡ None
-  pub slots : (i : ℕ) → i < top → slot_of r.machine.memory i ≡ cells i
+  pub slots : (i : ℕ) → i < top → slot_of r.machine i ≡ cells i
   pub calls_are : r.calls ≡ calls
   pub answers_are : r.answers ≡ answers
 
--- where the value of an expression is this, its code comes to its end with it in r4; or it divides
--- by zero on the way
-abbrev pub ComesTo : (cells : ℕ → ℕ) (top c len : ℕ) → List MadeCall → List (ℕ × ℕ) → List Instr
-    → CodeRun → Option ℕ → Type 0
-ComesTo cells top c len calls answers code r (Some x) =
+-- where the value of an expression is this, its code comes to its end with it in this register; or
+-- it divides by zero on the way
+abbrev pub ComesIn : (reg : ℕ) (cells : ℕ → ℕ) (top c len : ℕ) → List MadeCall → List (ℕ × ℕ)
+    → List Instr → CodeRun → Option ℕ → Type 0
+ComesIn reg cells top c len calls answers code r (Some x) =
     let u = run_by masked_place code len r in IsAt cells top (c + len) calls answers u
-    × (u.machine.regs 4 ≡ x)
-ComesTo cells top c len calls answers code r None =
+    × (u.machine.regs reg ≡ x)
+ComesIn reg cells top c len calls answers code r None =
     (n : ℕ) × (n ≤ len) × ((run_by masked_place code n r).ended ≡ Some AtDivision)
     × ((run_by masked_place code n r).calls ≡ calls)
+
+-- the same with the value in r4
+abbrev pub ComesTo : (cells : ℕ → ℕ) (top c len : ℕ) → List MadeCall → List (ℕ × ℕ) → List Instr
+    → CodeRun → Option ℕ → Type 0
+ComesTo cells top c len calls answers code r x = ComesIn 4 cells top c len calls answers code r x
 
 -- the code of an expression comes to its value
 abbrev pub ExpressionsRun : Type 0

@@ -16,7 +16,8 @@ use Rattle.graft_texts.specs.LanguageGrammar.{spelled_statements, spelled}
 use Rattle.graft_texts.specs.LanguageReading.{Syntax}
 use Rattle.graft_texts.specs.LanguageMeaning as l
 use Rattle.graft_texts.specs.LanguageMeaning.{numbered_expression, numbered}
-use Rattle.graft_lang.specs.Code.{fetches, puts, expression_code, arguments_code, registers_code, statements_code}
+use Rattle.graft_lang.specs.Code.{fetches, puts, left_register, left_code, right_code, expression_code, arguments_code}
+use Rattle.graft_lang.specs.Code.{registers_code, statements_code}
 use Rattle.graft_lang.specs.Code.{program_code}
 
 -- the tokens that are left, and the code so far
@@ -72,6 +73,41 @@ WritesExpression names top old new =
     → new ≡ record {
       tokens = behind;
       code = old.code ++ expression_code top (numbered_expression names e);
+    }
+
+-- where an expression is next, it is taken as a left operand and comes to this register
+abbrev pub WritesLeft : (names : List (List ℕ)) → (top reg : ℕ) → (old new : Writing) → Type 0
+WritesLeft names top reg old new =
+    (e : Expression) (behind : List Token) → old.tokens ≡ spelled_expression e behind
+    → (new ≡ record {
+      tokens = behind;
+      code = old.code ++ left_code (numbered_expression names e)
+          (expression_code top (numbered_expression names e));
+    }) × (reg ≡ left_register (numbered_expression names e))
+
+-- where an expression is next, it is taken as the right operand of an operator, the left one of
+-- which this register has
+abbrev pub WritesRight : (names : List (List ℕ)) → (top : ℕ) → Operator → (left : ℕ)
+    → (old new : Writing) → Type 0
+WritesRight names top op left old new =
+    (e : Expression) (behind : List Token) → old.tokens ≡ spelled_expression e behind
+    → new ≡ record {
+      tokens = behind;
+      code = old.code ++ right_code top op left (numbered_expression names e)
+          (expression_code (suc top) (numbered_expression names e));
+    }
+
+-- the same of a right operand that is an operation, behind its parenthesis
+abbrev pub WritesRightOperation : (names : List (List ℕ)) → (top : ℕ) → Operator → (left : ℕ)
+    → (old new : Writing) → Type 0
+WritesRightOperation names top op left old new =
+    (a : Expression) (inner : Operator) (b : Expression) (behind : List Token)
+    → old.tokens ≡ spelled_expression a (Infix inner
+    ∷ spelled_expression b (Mark CloseParenthesis ∷ behind))
+    → new ≡ record {
+      tokens = behind;
+      code = old.code ++ right_code top op left (numbered_expression names (Binary a inner b))
+          (expression_code (suc top) (numbered_expression names (Binary a inner b)));
     }
 
 -- the same of two operands with an operator between them, behind their parenthesis

@@ -37,7 +37,8 @@ impl<'t, 'a> Writer<'t, 'a> {
     fn load_argument(&mut self, reg: u8, top: u32, count: u32) -> Result<(), NoMemory>
         requires few { reg < 3 }
         requires room { top ≤ 1020 }
-        ensures { OnOk result (self.new ≡ appended (register_code reg top count) self.old) }
+        ensures code { OnOk result (self.new ≡ appended (register_code reg top count) self.old) }
+        ensures short { OnOk result (length self.new.code ≤ length self.old.code + 2) }
     {
         if u32::from(reg) < count {
             self.fetch(reg, top + u32::from(reg))

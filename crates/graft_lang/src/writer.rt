@@ -9,7 +9,7 @@ ghost use Rattle.graft_syntax.specs.Views.{token_view};
 ghost use Rattle.graft_lang.specs.Writing.{skipped, appended, patched, with_first, symbol_next};
 ghost use Rattle.graft_lang.specs.Writing.{behind_symbol, callable_next, behind_callable};
 ghost use Rattle.graft_lang.specs.Writing.{number_next, is_block_end, closes_block};
-ghost use Rattle.graft_lang.specs.Code.{fetches, puts, operator_code};
+ghost use Rattle.graft_lang.specs.Code.{fetches, puts, loads, source, operator_code};
 
 use gm_image::{Instr, Op};
 use graft_syntax::{NoMemory, Operator, Symbol, Token, same_symbol};
@@ -22,8 +22,14 @@ pub const VALUE: u8 = 4;
 /// The register of addresses.
 const ADDRESS: u8 = 5;
 
-/// The register of left operands.
-pub const LEFT: u8 = 6;
+/// The register of operands that are loaded.
+pub const OPERAND: u8 = 6;
+
+/// How many slots are in registers.
+const IN_REGISTERS: u32 = 7;
+
+/// The register of the first slot.
+const FIRST: u8 = 7;
 
 /// The tokens that are left, and the code so far.
 #[derive(Drop)]
@@ -213,56 +219,88 @@ impl<'t, 'a> Writer<'t, 'a> {
         self.code[at as usize] = with;
     }
 
-    /// Loads a slot of the segment into a register.
+    /// Brings a slot to a register.
     pub fn fetch(&mut self, reg: u8, slot: u32) -> Result<(), NoMemory>
         requires reg { reg < 16 }
         requires slot { slot ≤ 1024 }
-        ensures { OnOk result (self.new ≡ appended (fetches reg slot) self.old) }
+        ensures code { OnOk result (self.new ≡ appended (fetches reg slot) self.old) }
+        ensures short { OnOk result (length self.new.code ≤ length self.old.code + 2) }
     {
-        self.append(&[
-            load_number(ADDRESS, 4 * slot),
-            instr(Op::Ldw, reg, ADDRESS, 0, 0),
-        ])
+        if slot < IN_REGISTERS {
+            self.append(&[instr(Op::Mov, reg, FIRST + slot as u8, 0, 0)])
+        } else {
+            self.append(&[
+                load_number(ADDRESS, 4 * slot),
+                instr(Op::Ldw, reg, ADDRESS, 0, 0),
+            ])
+        }
     }
 
-    /// Stores a register into a slot of the segment.
+    /// Puts a register into a slot.
     pub fn put(&mut self, reg: u8, slot: u32) -> Result<(), NoMemory>
         requires reg { reg < 16 }
         requires slot { slot ≤ 1024 }
-        ensures { OnOk result (self.new ≡ appended (puts reg slot) self.old) }
+        ensures code { OnOk result (self.new ≡ appended (puts reg slot) self.old) }
+        ensures short { OnOk result (length self.new.code ≤ length self.old.code + 2) }
     {
+        if slot < IN_REGISTERS {
+            self.append(&[instr(Op::Mov, FIRST + slot as u8, reg, 0, 0)])
+        } else {
+            self.append(&[
+                load_number(ADDRESS, 4 * slot),
+                instr(Op::Stw, reg, ADDRESS, 0, 0),
+            ])
+        }
+    }
+
+    /// Brings a slot to a register, unless it is in one, and tells which register has it.
+    pub fn load(&mut self, reg: u8, slot: u32) -> Result<u8, NoMemory>
+        requires reg { reg < 14 }
+        requires slot { slot ≤ 1024 }
+        ensures code { IfOk result (λ from. (from ≡ source reg slot)
+            × (self.new ≡ appended (loads reg slot) self.old)) }
+        ensures named { IfOk result (λ from. from < 14) }
+        ensures short { OnOk result (length self.new.code ≤ length self.old.code + 2) }
+    {
+        if slot < IN_REGISTERS {
+            return Ok(FIRST + slot as u8);
+        }
         self.append(&[
             load_number(ADDRESS, 4 * slot),
-            instr(Op::Stw, reg, ADDRESS, 0, 0),
-        ])
+            instr(Op::Ldw, reg, ADDRESS, 0, 0),
+        ])?;
+        Ok(reg)
     }
 
-    fn apply_op(&mut self, op: Op) -> Result<(), NoMemory>
-        requires { fits (instr op 4 6 4 0) ≡ true }
-        ensures { OnOk result (self.new ≡ appended (instr op 4 6 4 0 ∷ []) self.old) }
+    fn apply_op(&mut self, op: Op, left: u8, right: u8) -> Result<(), NoMemory>
+        requires { fits (instr op 4 left right 0) ≡ true }
+        ensures { OnOk result (self.new ≡ appended (instr op 4 left right 0 ∷ []) self.old) }
     {
-        self.append(&[instr(op, VALUE, LEFT, VALUE, 0)])
+        self.append(&[instr(op, VALUE, left, right, 0)])
     }
 
-    /// Applies an operator to the left operand and the value. Two values are equal where their
-    /// difference is below 1.
-    pub fn apply(&mut self, op: Operator) -> Result<(), NoMemory>
-        ensures { OnOk result (self.new ≡ appended (operator_code op) self.old) }
+    /// Applies an operator to two registers; its value comes to the register of values. Two values
+    /// are equal where their difference is below 1.
+    pub fn apply(&mut self, op: Operator, left: u8, right: u8) -> Result<(), NoMemory>
+        requires left { left < 16 }
+        requires right { right < 16 }
+        ensures code { OnOk result (self.new ≡ appended (operator_code op left right) self.old) }
+        ensures short { OnOk result (length self.new.code ≤ length self.old.code + 3) }
     {
         match op {
-            Operator::Plus => self.apply_op(Op::Add),
-            Operator::Minus => self.apply_op(Op::Sub),
-            Operator::Times => self.apply_op(Op::Mul),
-            Operator::Over => self.apply_op(Op::Divu),
-            Operator::Rest => self.apply_op(Op::Remu),
-            Operator::And => self.apply_op(Op::And),
-            Operator::Or => self.apply_op(Op::Or),
-            Operator::Xor => self.apply_op(Op::Xor),
-            Operator::ShiftLeft => self.apply_op(Op::Shl),
-            Operator::ShiftRight => self.apply_op(Op::Shr),
-            Operator::Less => self.apply_op(Op::Sltu),
+            Operator::Plus => self.apply_op(Op::Add, left, right),
+            Operator::Minus => self.apply_op(Op::Sub, left, right),
+            Operator::Times => self.apply_op(Op::Mul, left, right),
+            Operator::Over => self.apply_op(Op::Divu, left, right),
+            Operator::Rest => self.apply_op(Op::Remu, left, right),
+            Operator::And => self.apply_op(Op::And, left, right),
+            Operator::Or => self.apply_op(Op::Or, left, right),
+            Operator::Xor => self.apply_op(Op::Xor, left, right),
+            Operator::ShiftLeft => self.apply_op(Op::Shl, left, right),
+            Operator::ShiftRight => self.apply_op(Op::Shr, left, right),
+            Operator::Less => self.apply_op(Op::Sltu, left, right),
             Operator::Equal => self.append(&[
-                instr(Op::Sub, VALUE, LEFT, VALUE, 0),
+                instr(Op::Sub, VALUE, left, right, 0),
                 load_number(ADDRESS, 1),
                 instr(Op::Sltu, VALUE, VALUE, ADDRESS, 0),
             ]),

@@ -1,7 +1,7 @@
 //! Which line of a text in the graft language each instruction of its code comes from, and the
 //! names of its variables.
 
-use crate::costs::Costs;
+use crate::costs::{Costs, IN_REGISTERS};
 use graft_syntax::{Syntax, Token, read};
 use kernel_data::NoMemory;
 use lab_lowering::Graft;
@@ -22,10 +22,18 @@ fn put_line(lines: &mut Vec<usize>, line: usize, count: u32) -> Result<(), NoMem
     Ok(())
 }
 
-/// What was read of a text: its tokens, and how many were passed.
+/// The number of a variable; 0 for another token.
+fn slot_of(syntax: &Syntax, token: &Token) -> usize {
+    match token {
+        Token::Variable(name) => syntax.number_of(name),
+        _ => 0,
+    }
+}
+
+/// What was read of a text, and how many of its tokens were passed.
 #[derive(Drop)]
 struct Passing<'t, 'a> {
-    tokens: &'t [Token<'a>],
+    syntax: &'t Syntax<'a>,
     next: usize,
     costs: Costs,
 }
@@ -40,8 +48,9 @@ fn put_tokens(
     let mut words = Parts::new(text, b' ');
     while let Some(word) = words.next() {
         if !word.is_empty() {
-            if let Some(token) = passing.tokens.get(passing.next) {
-                let count = passing.costs.take(*token)?;
+            let syntax = passing.syntax;
+            if let Some(token) = syntax.tokens().get(passing.next) {
+                let count = passing.costs.take(*token, slot_of(syntax, token))?;
                 put_line(lines, number, count)?;
                 passing.next = passing.next.saturating_add(1);
             }
@@ -55,12 +64,14 @@ fn put_tokens(
 fn lines_by(alloc: Global, graft: &Graft, syntax: &Syntax) -> Result<Vec<usize>, NoMemory> {
     let mut lines = Vec::new(alloc);
     let others = syntax.variables().saturating_sub(ARGUMENTS).min(TEXT_BYTES);
-    put_line(&mut lines, graft.begun(), 9)?;
-    put_line(&mut lines, graft.begun(), 2 * others as u32)?;
+    let registers = others.min(IN_REGISTERS - ARGUMENTS);
+    put_line(&mut lines, graft.begun(), 5)?;
+    put_line(&mut lines, graft.begun(), registers as u32)?;
+    put_line(&mut lines, graft.begun(), 2 * (others - registers) as u32)?;
     let mut passing = Passing {
-        tokens: syntax.tokens(),
+        syntax,
         next: 0,
-        costs: Costs::new(alloc),
+        costs: Costs::new(alloc, syntax.variables()),
     };
     let mut texts = Parts::new(graft.text(), b'\n');
     for number in graft.lines() {
@@ -68,7 +79,7 @@ fn lines_by(alloc: Global, graft: &Graft, syntax: &Syntax) -> Result<Vec<usize>,
             put_tokens(&mut lines, &mut passing, text, *number)?;
         }
     }
-    put_line(&mut lines, graft.begun(), 5)?;
+    put_line(&mut lines, graft.begun(), 3)?;
     Ok(lines)
 }
 

@@ -21,26 +21,20 @@ fn row_of(i: &Instr) -> (Op, u8, u8, u8, u32) {
 fn the_empty_text_answers_its_first_arguments(rt: HostRuntime) {
     let rows = [
         // the arguments in the slots 0 to 3, and a zero
-        (Op::Li, 5, 0, 0, 0),
-        (Op::Stw, 0, 5, 0, 0),
-        (Op::Li, 5, 0, 0, 4),
-        (Op::Stw, 1, 5, 0, 0),
-        (Op::Li, 5, 0, 0, 8),
-        (Op::Stw, 2, 5, 0, 0),
-        (Op::Li, 5, 0, 0, 12),
-        (Op::Stw, 3, 5, 0, 0),
+        (Op::Mov, 7, 0, 0, 0),
+        (Op::Mov, 8, 1, 0, 0),
+        (Op::Mov, 9, 2, 0, 0),
+        (Op::Mov, 10, 3, 0, 0),
         (Op::Li, 4, 0, 0, 0),
         // the end of the text
-        (Op::Li, 5, 0, 0, 0),
-        (Op::Ldw, 0, 5, 0, 0),
-        (Op::Li, 5, 0, 0, 4),
-        (Op::Ldw, 1, 5, 0, 0),
+        (Op::Mov, 0, 7, 0, 0),
+        (Op::Mov, 1, 8, 0, 0),
         (Op::Ret, 0, 0, 0, 0),
     ];
     let image = compile(rt.alloc(), b"".as_slice()).expect(&rt, "ample memory");
-    assert_eq!(rt; image.code().len(), 14);
+    assert_eq!(rt; image.code().len(), 8);
     assert!(rt; image.body().is_empty());
     for (i, want) in image.code().iter().zip(&rows) {
-        assert!(rt; row_of(i) == *want, "{}", want.4);
+        assert!(rt; row_of(i) == *want, "{}", want.1);
     }
 }

@@ -16,4 +16,4 @@ returns-clause-writes t c =
     arguments_more _ _ (c.args.top + 1) c.in_ok-others.others c.args.self.now c.takes.new.self
     c.expression.new.self c.put.new.self c.takes-2.new.self _
     (sym c.if-takes.ensures.next) c.takes.ensures.skips c.in_ok-expression.ensures.writes
-    c.in_ok-put.ensures c.takes-2.ensures.skips (omega arith) c.in_ok-others.ensures.writes
+    c.in_ok-put.ensures.code c.takes-2.ensures.skips (omega arith) c.in_ok-others.ensures.writes
