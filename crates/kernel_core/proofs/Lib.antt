@@ -3,6 +3,7 @@ pub mod SettleLemmas
 mod AloneLemmas
 pub mod LastLemmas
 pub mod RestLemmas
+mod NewestLemmas
 pub mod StepLemmas
 pub mod TickLemmas
 pub mod EventLemmas

@@ -1,7 +1,6 @@
 -- Changes that begin at rest.
 use Rattle.std.proofs.Common.{append_assoc, ◌≡◌, ℕ, true, false, Bool, List, ◌++◌, Option, Some}
 use Rattle.std.proofs.Common.{None, refl, ap, sym, subst, ◌∙◌}
-use Rattle.std.specs.Prelude.{is_some}
 use Rattle.kernel_model.specs.declared.Note.{Note}
 use Rattle.kernel_model.specs.World.{Blocks}
 use Rattle.kernel_model.specs.Meaning.{Meaning}
@@ -21,10 +20,10 @@ use Rattle.running_kernel.specs.declared.running.Running.{Running}
 use Rattle.kernel_steps.specs.Composing.{faults_joined}
 use Rattle.kernel_steps.specs.Faults.{fault_notes}
 use Rattle.kernel_steps.specs.Moments.{kernel_moment}
-use Rattle.kernel_steps.specs.Runs.{KeepsRunning, RefinesAndKeeps}
-use Rattle.kernel_core.specs.EventParts.{taken_up, RefinesFromRest, RefinesToRest, Rests}
+use Rattle.kernel_steps.specs.Runs.{RefinesAndKeeps}
+use Rattle.kernel_core.specs.EventParts.{taken_up, RefinesFromRest, RefinesToRest, Rests, RunsFromRest}
 use Rattle.kernel_steps.specs.Refines.{Refines, RunMatches}
-use Rattle.running_kernel.specs.Views.{run_of}
+use Rattle.running_kernel.specs.Views.{placed_of, run_of}
 
 -- ---- what always holds
 
@@ -40,6 +39,37 @@ from_did m f x y kept kept_new d e h =
       made = h.made;
       goes = λ blocks notes rest s tells k. h.goes blocks notes rest tells k;
       faulted = h.faulted;
+    }
+
+-- so is one that keeps the kernel running
+pub runs_from : {C B M : Type 0} {P : _} (m : Meaning) (f : PlacedRun → PlacedRun)
+    (x y : Running C B M P) (kept kept_new : List Note) (d e : DiskSeen) →
+    RefinesAndKeeps m f (kernel_moment x kept d) (kernel_moment y kept_new e) →
+    RunsFromRest m f (kernel_moment x kept d) (kernel_moment y kept_new e)
+runs_from m f x y kept kept_new d e h =
+    record {
+      refines = from_did m f (placed_of x) (placed_of y) kept kept_new d e h.refines;
+      on = record { running = h.running; abstraction = h.abstraction; world = h.world; clock = h.clock };
+    }
+
+-- where another change comes to the same from rest
+pub runs_as : {C B M : Type 0} {P : _} (m : Meaning) (f g : PlacedRun → PlacedRun)
+    (x y : Running C B M P) (kept kept_new : List Note) (d e : DiskSeen) →
+    ((blocks : Blocks) (notes : List Note) (io : List Bool) → Rests m (placed_of x) blocks →
+    f (run_of (placed_of x) blocks notes io) ≡ g (run_of (placed_of x) blocks notes io)) →
+    RefinesAndKeeps m g (kernel_moment x kept d) (kernel_moment y kept_new e) →
+    RunsFromRest m f (kernel_moment x kept d) (kernel_moment y kept_new e)
+runs_as m f g x y kept kept_new d e same h =
+    record {
+      refines = record {
+        io = h.refines.io;
+        made = h.refines.made;
+        goes =
+            λ blocks notes rest s tells k. subst (λ r. RunMatches r (placed_of y) kept_new e.known rest)
+            (sym (same blocks notes (h.refines.io ++ rest) s)) (h.refines.goes blocks notes rest tells k);
+        faulted = h.refines.faulted;
+      };
+      on = record { running = h.running; abstraction = h.abstraction; world = h.world; clock = h.clock };
     }
 
 -- another change that comes to the same
@@ -125,10 +155,10 @@ did_to_rest m f g x y kept kept_new d e refines how =
 
 module _ (m : Meaning) (x : Placed) where
   -- an event under way at rest
-  abbrev run_from : (blocks : Blocks) → List Note → List Bool → Rests m x blocks → Run
+  abbrev pub run_from : (blocks : Blocks) → List Note → List Bool → Rests m x blocks → Run
   run_from blocks notes io s = record { kernel = s.kernel; blocks = blocks; notes = notes; io = io }
 
-  stands_from : (blocks : Blocks) (notes : List Note) (io : List Bool) (s : Rests m x blocks) →
+  pub stands_from : (blocks : Blocks) (notes : List Note) (io : List Bool) (s : Rests m x blocks) →
       RunStandsFor m (run_of x blocks notes io) (run_from blocks notes io s)
   stands_from blocks notes io s = record { kernel = s.stands; blocks = refl; notes = refl; io = refl; whole = s.whole }
 

@@ -2,7 +2,6 @@
 use Rattle.std.proofs.Common.{◌≡◌, ℕ, zero, suc, ◌<◌, Bool, true, false, List, [], ◌∷◌, length}
 use Rattle.std.proofs.Common.{Option, Some, None, arith, refl, ap, sym, ◌∙◌}
 use Rattle.std.specs.Prelude.{Contains, option_map}
-use Rattle.kernel_model.specs.declared.Cause.{Cause}
 use Rattle.kernel_model.specs.declared.Cause.TheVariants.{TimeOut}
 use Rattle.kernel_model.specs.declared.Note.{Note}
 use Rattle.kernel_model.specs.declared.Note.TheVariants.{Refused}
@@ -13,7 +12,7 @@ use Rattle.kernel_model.specs.Kernel.{Blocker, Waiter}
 use Rattle.placed_laws.specs.Agreeing.{SameShown}
 use Rattle.placed_laws.specs.Placed.{Placed, PlacedCall, PlacedLevel, PlacedRun}
 use Rattle.placed_laws.specs.PlacedSteps.{placed_drop, placed_noted, placed_requeue, with_placed_call}
-use Rattle.placed_laws.specs.PlacedEvents.{expired_by, is_over_by, placed_actions, placed_drop_if}
+use Rattle.placed_laws.specs.PlacedEvents.{expired_by, is_over_by, placed_actions}
 use Rattle.placed_laws.specs.PlacedEvents.{placed_entry_action, placed_settled, placed_waiter}
 use Rattle.placed_laws.specs.PlacedEvents.{placed_waiter_by}
 use Rattle.running_kernel.specs.Views.{run_of, HasAbstraction}

@@ -5,7 +5,7 @@ use Rattle.std.specs.Prelude.{Contains, is_some}
 use Rattle.kernel_model.specs.declared.Note.{Note}
 use Rattle.kernel_model.specs.World.{Blocks, World}
 use Rattle.kernel_model.specs.Meaning.{Meaning}
-use Rattle.kernel_model.specs.Kernel.{Call, Waiter, Run, has_level, is_at_piece}
+use Rattle.kernel_model.specs.Kernel.{Call, Waiter, Run, is_at_piece}
 use Rattle.kernel_model.specs.Blocking.{levels_of}
 use Rattle.call_pieces.specs.Disks.{DiskSeen}
 use Rattle.call_pieces.specs.Stores.{world_of_store}

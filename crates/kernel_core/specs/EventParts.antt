@@ -12,7 +12,7 @@ use Rattle.call_pieces.specs.Stores.{world_of_store}
 use Rattle.placed_laws.specs.Placed.{Placed, PlacedRun, has_some, placed_blocker}
 use Rattle.placed_laws.specs.Stands.{StandsFor}
 use Rattle.placed_laws.specs.PlacedSteps.{placed_joins, placed_noted, placed_step}
-use Rattle.placed_laws.specs.PlacedEvents.{placed_settled, placed_steps}
+use Rattle.placed_laws.specs.PlacedEvents.{placed_settle, placed_settled, placed_steps}
 use Rattle.running_kernel.specs.declared.running.Running.{Running}
 use Rattle.kernel_steps.specs.Faults.{fault_notes}
 use Rattle.kernel_steps.specs.Moments.{kernel_moment, KernelMoment}
@@ -73,6 +73,18 @@ pub record RunsToRest {C B M : Type 0} {P : _} (m : Meaning) (f : PlacedRun → 
   pub refines : RefinesToRest m f (kernel_moment (placed_of a.kernel) a.notes a.disk)
       (kernel_moment (placed_of b.kernel) b.notes b.disk)
   pub on : KeepsRunning m a.kernel b.kernel
+
+-- ---- a call that begins
+
+module _ (m : Meaning) where
+  -- all steps that can be taken, of which the first is that of the call of p, if nothing blocks it:
+  -- the same as all steps that can be taken, where each other call in the order is blocked
+  abbrev pub settled_newest : ℕ → PlacedRun → PlacedRun
+  settled_newest p r =
+      elim (placed_blocker m r.placed p) [
+        | Some b ↦ placed_settled m r
+        | None ↦ placed_settle m 255 (placed_step m p r)
+      ]
 
 -- ---- instructions
 

@@ -5,11 +5,11 @@ ghost use Rattle.kernel_model.specs.declared.Event.TheVariants.{Step, Sys};
 ghost use Rattle.kernel_model.specs.Bare.{call_with, event_with};
 ghost use Rattle.kernel_model.specs.Policies.{lives};
 ghost use Rattle.call_pieces.specs.Stores.{world_of_store, queue_of};
-ghost use Rattle.placed_laws.specs.PlacedEvents.{placed_event_on, placed_last, placed_settled};
+ghost use Rattle.placed_laws.specs.PlacedEvents.{placed_event_on, placed_last};
 ghost use Rattle.kernel_steps.specs.Moments.{kernel_moment};
 ghost use Rattle.running_kernel.specs.Sound.{IsSoundFor};
 ghost use Rattle.kernel_steps.specs.Runs.{CanRun, IsSoundOn, RefinesAndKeeps};
-ghost use Rattle.kernel_core.specs.EventParts.{RunsFromRest};
+ghost use Rattle.kernel_core.specs.EventParts.{settled_newest, RunsFromRest};
 ghost use Rattle.running_kernel.specs.Idle.{joined_in};
 ghost use Rattle.running_kernel.specs.Views.{placed_of};
 ghost use Rattle.kernel_core.specs.EventRefines.{EventRefines, IsKernel};
@@ -55,7 +55,7 @@ fn run_call<C: Calls, B: Policy, D: Disk>(
 )
     requires { CanRun C.Meaning.meaning (joined_in p running.old) (D.seen disk.old) p }
     ensures { RefinesAndKeeps C.Meaning.meaning
-        (λ r. placed_last C.Meaning.meaning p (placed_settled C.Meaning.meaning r))
+        (λ r. placed_last C.Meaning.meaning p (settled_newest C.Meaning.meaning p r))
         (kernel_moment (joined_in p running.old) trace.old.notes (D.seen disk.old))
         (kernel_moment running.new trace.new.notes (D.seen disk.new)) }
 {
@@ -63,7 +63,8 @@ fn run_call<C: Calls, B: Policy, D: Disk>(
     say_last(running, p, &mut trace.notes);
 }
 
-/// A system call of process p: refused at once, or begun.
+/// A system call of process p: refused at once, or begun. Where the kernel rested, no call that
+/// waited can go on before the first piece of this one.
 fn system<C: Calls, B: Policy, D: Disk>(
     running: &mut Running<C, B>,
     p: u32,
@@ -72,7 +73,7 @@ fn system<C: Calls, B: Policy, D: Disk>(
     trace: &mut Trace,
 )
     requires { IsSoundOn C.Meaning.meaning running.old (D.seen disk.old) }
-    ensures { RefinesAndKeeps C.Meaning.meaning
+    ensures { RunsFromRest C.Meaning.meaning
         (placed_event_on C.Meaning.meaning request.entry.number
         (Sys p (call_with request.entry.call request.entry.bytes.now.items)))
         (kernel_moment running.old trace.old.notes (D.seen disk.old))

@@ -1,15 +1,16 @@
 //! Steps until all calls are blocked.
 
-ghost use Rattle.std.specs.Prelude.{◌≡◌, List, IfSome, IfNone};
+ghost use Rattle.std.specs.Prelude.{◌≡◌, List, IfSome, IfNone, true, is_some};
 ghost use Rattle.call_pieces.specs.Disks.{DiskSeen};
 ghost use Rattle.kernel_model.specs.declared.Note.{Note};
 ghost use Rattle.placed_laws.specs.PlacedSteps.{placed_first_free};
 ghost use Rattle.placed_laws.specs.PlacedEvents.{placed_rested, placed_settle, placed_settled};
 ghost use Rattle.kernel_steps.specs.Moments.{kernel_moment};
 ghost use Rattle.running_kernel.specs.Sound.{IsSound};
-ghost use Rattle.running_kernel.specs.Views.{placed_of};
+ghost use Rattle.running_kernel.specs.Views.{placed_of, call_at};
 ghost use Rattle.running_kernel.specs.Idle.{IsIdle, joined_in};
 ghost use Rattle.kernel_steps.specs.Runs.{CanRun, IsSoundOn, RefinesAndKeeps};
+ghost use Rattle.kernel_core.specs.EventParts.{settled_newest};
 
 use call_pieces::{Calls, Disk, Policy};
 use kernel_steps::{Trace, piece_alone, step};
@@ -115,7 +116,48 @@ fn settle_alone<C: Calls, B: Policy, D: Disk>(
     }
 }
 
-/// All steps that can be taken once process p's call, which has begun, has joined the order.
+/// All steps that can be taken, of which the first is that of process p's call, which has just joined
+/// the order, if nothing blocks it.
+fn settle_from<C: Calls, B: Policy, D: Disk>(
+    running: &mut Running<C, B>,
+    p: u8,
+    disk: &mut D,
+    trace: &mut Trace,
+)
+    requires at { CanRun C.Meaning.meaning running.old (D.seen disk.old) p }
+    requires call { is_some (call_at running.old p) ≡ true }
+    ensures { RefinesAndKeeps C.Meaning.meaning (settled_newest C.Meaning.meaning p)
+        (kernel_moment running.old trace.old.notes (D.seen disk.old))
+        (kernel_moment running.new trace.new.notes (D.seen disk.new)) }
+{
+    if running.blocker(p).is_some() {
+        return settle(running, STEPS, disk, trace);
+    }
+    step(running, p, disk, trace);
+    settle(running, STEPS - 1, disk, trace);
+}
+
+/// The same, once process p's call, which has begun, has joined the order. It is marked cold, as
+/// `settle_joined` is.
+#[cold]
+#[inline(never)]
+fn settle_newest<C: Calls, B: Policy, D: Disk>(
+    running: &mut Running<C, B>,
+    p: u8,
+    disk: &mut D,
+    trace: &mut Trace,
+)
+    requires { CanRun C.Meaning.meaning (joined_in p running.old) (D.seen disk.old) p }
+    ensures { RefinesAndKeeps C.Meaning.meaning (settled_newest C.Meaning.meaning p)
+        (kernel_moment (joined_in p running.old) trace.old.notes (D.seen disk.old))
+        (kernel_moment running.new trace.new.notes (D.seen disk.new)) }
+{
+    running.order.push(Waiting::joined(p));
+    settle_from(running, p, disk, trace);
+}
+
+/// All steps that can be taken once process p's call, which has begun, has joined the order: the
+/// first is that of this call, if nothing blocks it. Calls that waited before aren't asked till then.
 pub(crate) fn settle_begun<C: Calls, B: Policy, D: Disk>(
     running: &mut Running<C, B>,
     p: u8,
@@ -123,14 +165,14 @@ pub(crate) fn settle_begun<C: Calls, B: Policy, D: Disk>(
     trace: &mut Trace,
 )
     requires { CanRun C.Meaning.meaning (joined_in p running.old) (D.seen disk.old) p }
-    ensures { RefinesAndKeeps C.Meaning.meaning (placed_settled C.Meaning.meaning)
+    ensures { RefinesAndKeeps C.Meaning.meaning (settled_newest C.Meaning.meaning p)
         (kernel_moment (joined_in p running.old) trace.old.notes (D.seen disk.old))
         (kernel_moment running.new trace.new.notes (D.seen disk.new)) }
 {
     if running.is_idle() {
         return settle_alone(running, p, STEPS, disk, trace);
     }
-    settle_joined(running, p, STEPS, disk, trace);
+    settle_newest(running, p, disk, trace);
 }
 
 /// All steps that can be taken.

@@ -42,6 +42,28 @@ free_need users p q n ns found is none user =
     by_found (Some h) = Some h
     by_found None = first_hindrance no_locks users p q ns
 
+-- what hinders the first need, or else what hinders the rest
+abbrev pub or_else : Option Hindrance → Option Hindrance → Option Hindrance
+or_else (Some h) rest = Some h
+or_else None rest = rest
+
+-- the first of some needs, where nobody holds anything
+pub user_first : (users : ℕ → Option ℕ) (p q : ℕ) (n : Need) (ns : List Need) →
+    first_hindrance no_locks users p q (n ∷ ns)
+    ≡ or_else (cond n.by_user (user_hindrance q n.object (user_of users n.object)) None)
+    (first_hindrance no_locks users p q ns)
+user_first users p q n ns =
+    ap (λ (h : Option ℕ). by_found (hindrance_by users q n h)) (nobody_holds p n.object n.mode)
+    ∙ same (cond n.by_user (user_hindrance q n.object (user_of users n.object)) None)
+  where
+    by_found : Option Hindrance → Option Hindrance
+    by_found (Some h) = Some h
+    by_found None = first_hindrance no_locks users p q ns
+
+    same : (h : Option Hindrance) → by_found h ≡ or_else h (first_hindrance no_locks users p q ns)
+    same (Some h) = refl
+    same None = refl
+
 -- needs of which no user lock's holder hinders one
 free_hinders_none : (users : ℕ → Option ℕ) (p q : ℕ) (ns : List Need) →
     ((n : Need) → Contains ns n →

@@ -17,6 +17,7 @@ ghost use Rattle.kernel_data.specs.declared.Need.{Need as Needed};
 ghost use Rattle.kernel_data.specs.declared.Object.TheVariants.{Lock};
 ghost use Rattle.kernel_model.specs.Laws.{IsInRange, waits_for_user};
 ghost use Rattle.kernel_model.specs.Locks.{LockTable as Table, hindrance_by, lowest_holder, user_hindrance, user_of};
+ghost use Rattle.kernel_model.specs.Locks as table;
 ghost use Rattle.graft_levels.specs.UndoLevels.{Logged};
 ghost use Rattle.call_pieces.specs.Stores.{world_of_store, queue_of, objects_of};
 ghost use Rattle.lock_table.specs.Masks.{held};
@@ -142,6 +143,25 @@ fn is_free_of_users<B: Policy>(store: &Store<B>, p: u8, call: BareCall) -> bool
     }
 }
 
+/// The first hindrance of a step of process p over its needs in order, where nothing is held: only
+/// the holder of a user lock can hinder it.
+#[tactic(auto, using(crate::proofs::FreeLemmas::user_first))]
+fn first_user_hindrance<B: Policy>(store: &Store<B>, p: u8, needs: &[Need]) -> Option<Hindrance>
+    requires range { All (λ (n : Needed). IsInRange n.object) needs.now }
+    ensures { option_map hindrance_of result
+        ≡ table.first_hindrance table.no_locks (objects_of store.now).things.lock p p needs.now }
+{
+    let Some((first, rest)) = needs.split_first() else {
+        return None;
+    };
+    if first.by_user {
+        if let Some(found) = other_user(store, p, first.object) {
+            return Some(found);
+        }
+    }
+    first_user_hindrance(store, p, rest)
+}
+
 /// What hinders the next piece of a call of process p, by a look at each of its needs. It stands
 /// apart since room for the most needs is cleared here.
 #[inline(never)]
@@ -162,6 +182,9 @@ fn hindrance_by_needs<C: Calls, B: Policy>(
 {
     let mut needs = Needs::new();
     C::need(work, store, &mut needs);
+    if locks.is_free() {
+        return first_user_hindrance(store, p, needs.as_slice());
+    }
     first_hindrance(locks, store, p, p, needs.as_slice())
 }
 

@@ -57,7 +57,4 @@ returns-in-Sys-clause-happened g c =
     (Sys c.in-Sys.p (call_with c.in-Sys.call c.args.bytes.now.items)) a.trace.now.notes
     c.system.new.trace.notes (g.D.Disk.seen a.disk.now) (g.D.Disk.seen c.system.new.disk)
     (c.requires.size ∙ sym c.size.ensures.count) c.requires.no_notes
-    c.size.ensures.whole (from_did m (placed_event_on m a.number
-    (Sys c.in-Sys.p (call_with c.in-Sys.call c.args.bytes.now.items))) (placed_of a.running.now)
-    (placed_of c.system.new.running) a.trace.now.notes c.system.new.trace.notes
-    (g.D.Disk.seen a.disk.now) (g.D.Disk.seen c.system.new.disk) c.system.ensures.refines))
+    c.size.ensures.whole c.system.ensures.refines)

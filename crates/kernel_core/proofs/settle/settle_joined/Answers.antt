@@ -1,4 +1,3 @@
-use Rattle.std.proofs.Common.{◌≡◌}
 use Rattle.placed_laws.specs.PlacedEvents.{placed_settle}
 use Rattle.running_kernel.specs.declared.running.Running.{Running}
 use Rattle.running_kernel.specs.Idle.{joined_in}
