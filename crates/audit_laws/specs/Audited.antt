@@ -4,10 +4,9 @@ use Rattle.script_model.specs.declared.Keys.{Keys}
 use Rattle.script_model.specs.Directory.{sample_disk}
 use Rattle.script_model.specs.Session.{whole}
 use Rattle.script_model.specs.Outcome.{End, outcome, written}
+use Rattle.script_model.specs.Audits.{verdict, wanted}
+use Rattle.script_model.specs.declared.Verdict.TheVariants.{Yes}
 use Rattle.failure_laws.specs.Failures.{NothingFails}
-use Rattle.run_audit.specs.Audits.{wanted}
-use Rattle.run_audit.specs.Lines.{verdict}
-use Rattle.run_audit.specs.declared.Verdict.TheVariants.{Yes}
 
 -- what the run of a script writes over the sample disk, where these lists say which of its calls of
 -- the disk fail

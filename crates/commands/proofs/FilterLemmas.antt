@@ -6,7 +6,7 @@ use Rattle.std.proofs.Common.{arith, refl, sym, ap, subst, ◌∙◌, inl, inr, 
 use Rattle.std.proofs.lemmas.Bool.{cases_Bool}
 use Rattle.std.proofs.lemmas.Bool.Decides.{nat_tests}
 use Rattle.script_model.specs.Outcome.{Ending, End, Fault, Over, SCRIPT_BYTES}
-use Rattle.script_model.specs.Filters.{Filter, Box, Check, Reseal, Asm, Dis, Lang, Answer, IsFilterAnswer}
+use Rattle.script_model.specs.Filters.{Filter, Box, Check, Reseal, Asm, Dis, Lang, Audit, Answer, IsFilterAnswer}
 use Rattle.vino_base.specs.Streams.{DeviceSeen, SourceSeen, SinkSeen, IsUsed, not_used, AppendsPart}
 use Rattle.commands.specs.declared.input.Ending as declared
 use Rattle.commands.specs.declared.input.Ending.TheVariants as declared_ending
@@ -58,6 +58,7 @@ silent (Check keys) taken a is = ap (λ (b : Answer). b.written) is
 silent (Reseal keys) taken a is = ap (λ (b : Answer). b.written) is
 silent Asm taken a is = ap (λ (b : Answer). b.written) is
 silent Dis taken a is = ap (λ (b : Answer). b.written) is
+silent (Audit keys) taken a is = ap (λ (b : Answer). b.written) is
 silent Lang taken a is = ap (λ (b : Answer). b.written) is
 
 -- a part isn't all of nothing

@@ -1,3 +1,4 @@
 mod FirstLine
 mod Statuses
 pub mod FilterLemmas
+mod Parting

@@ -1,18 +1,23 @@
 -- Which statuses answers have: none that of want of memory, and that of a failed source exactly where reading failed.
-use Rattle.std.proofs.Common.{◌≡◌, ℕ, ◌==◌, Bool, true, false, List, Result, Ok, Err, refl, sym, subst}
+use Rattle.std.proofs.Common.{◌≡◌, ℕ, ◌==◌, Bool, true, false, List, Option, Some, None, Result, Ok, Err}
+use Rattle.std.proofs.Common.{refl, sym, subst}
 use Rattle.script_model.specs.declared.Instr.{Instr}
 use Rattle.script_model.specs.declared.Keys.{Keys}
 use Rattle.script_model.specs.World.{Image}
 use Rattle.script_model.specs.Boxed.{RewriteFault, rewrite}
 use Rattle.script_model.specs.Images.{LoadFault, read_raw, load, reseal}
+use Rattle.script_model.specs.declared.Verdict.{Verdict}
+use Rattle.script_model.specs.declared.Verdict.TheVariants.{Yes, No}
+use Rattle.script_model.specs.Audits.{verdict, wanted, parted}
 use Rattle.script_model.specs.Assembler.{LineFault, assemble}
 use Rattle.script_model.specs.Outcome.{Ending, End, Fault, Over}
 use Rattle.script_model.specs.LanguageReading.{Syntax, read}
 use Rattle.script_model.specs.LanguageReading as language
-use Rattle.script_model.specs.Filters.{Filter, Answer, Box, Check, Reseal, Asm, Dis, Lang}
+use Rattle.script_model.specs.Filters.{Filter, Answer, Box, Check, Reseal, Asm, Dis, Lang, Audit}
 use Rattle.script_model.specs.Filters.{hex_line, boxed_answer, box_answer, check_answer}
 use Rattle.script_model.specs.Filters.{reseal_answer, dis_answer, asm_answer, hex_answer}
-use Rattle.script_model.specs.Filters.{filter_answer, lang_refusal, raw_answer, AnswersText}
+use Rattle.script_model.specs.Filters.{filter_answer, lang_refusal, raw_answer, audit_answer, verdict_answer}
+use Rattle.script_model.specs.Filters.{AnswersText}
 use Rattle.script_model.specs.Filters.{IsFilterAnswer}
 
 -- an answer's status isn't that of want of memory, and is that of a failed source if reading failed
@@ -58,6 +63,15 @@ hex_usual (Reseal keys) (Ok bytes) = reseal_usual (reseal keys bytes)
 hex_usual Asm (Ok bytes) = ((λ h. cc), refl)
 hex_usual Dis (Ok bytes) = dis_usual (read_raw bytes)
 hex_usual Lang (Ok bytes) = ((λ h. cc), refl)
+hex_usual (Audit keys) (Ok bytes) = ((λ h. cc), refl)
+
+verdict_usual : (v : Verdict) → IsUsual false (verdict_answer v)
+verdict_usual Yes = ((λ h. cc), refl)
+verdict_usual (No n) = ((λ h. cc), refl)
+
+audit_usual : (keys : Keys) (o : Option (List ℕ × List ℕ)) → IsUsual false (audit_answer keys o)
+audit_usual keys None = ((λ h. cc), refl)
+audit_usual keys (Some parts) = verdict_usual (verdict parts.1 (wanted keys parts.0))
 
 -- the answer of a filter that has one
 filter_usual : (f : Filter) (taken : List ℕ) (e : Ending) → IsUsual (is_fault e) (filter_answer f taken e)
@@ -67,6 +81,7 @@ filter_usual Asm taken End = asm_usual (assemble taken)
 filter_usual (Box keys keep) taken End = hex_usual (Box keys keep) (hex_line taken)
 filter_usual (Check keys) taken End = hex_usual (Check keys) (hex_line taken)
 filter_usual (Reseal keys) taken End = hex_usual (Reseal keys) (hex_line taken)
+filter_usual (Audit keys) taken End = audit_usual keys (parted taken)
 filter_usual Dis taken End = hex_usual Dis (hex_line taken)
 filter_usual Lang taken End = hex_usual Lang (hex_line taken)
 
@@ -91,5 +106,6 @@ answers_usual (Box keys keep) taken e a is =
     subst (IsUsual (is_fault e)) (sym is) (filter_usual (Box keys keep) taken e)
 answers_usual (Check keys) taken e a is = subst (IsUsual (is_fault e)) (sym is) (filter_usual (Check keys) taken e)
 answers_usual (Reseal keys) taken e a is = subst (IsUsual (is_fault e)) (sym is) (filter_usual (Reseal keys) taken e)
+answers_usual (Audit keys) taken e a is = subst (IsUsual (is_fault e)) (sym is) (filter_usual (Audit keys) taken e)
 answers_usual Asm taken e a is = subst (IsUsual (is_fault e)) (sym is) (filter_usual Asm taken e)
 answers_usual Dis taken e a is = subst (IsUsual (is_fault e)) (sym is) (filter_usual Dis taken e)

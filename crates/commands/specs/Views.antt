@@ -5,7 +5,7 @@ use Rattle.script_model.specs.Outcome as spec_outcome
 use Rattle.commands.specs.declared.input.Ending.{Ending}
 use Rattle.commands.specs.declared.input.Ending.TheVariants.{End, Fault, Over}
 use Rattle.commands.specs.declared.answer.Filter.{Filter}
-use Rattle.commands.specs.declared.answer.Filter.TheVariants.{Box, Check, Reseal, Asm, Dis, Lang}
+use Rattle.commands.specs.declared.answer.Filter.TheVariants.{Box, Check, Reseal, Asm, Dis, Lang, Audit}
 
 -- how reading ended
 abbrev pub ending_of : Ending → spec_outcome.Ending
@@ -26,6 +26,7 @@ filter_of (Reseal keys) = spec.Reseal keys
 filter_of Asm = spec.Asm
 filter_of Dis = spec.Dis
 filter_of Lang = spec.Lang
+filter_of (Audit keys) = spec.Audit keys
 
 -- the filter refuses images by a status of their own
 abbrev pub is_of_images : Filter → Bool
@@ -35,3 +36,9 @@ is_of_images (Reseal keys) = true
 is_of_images Asm = false
 is_of_images Dis = false
 is_of_images Lang = false
+is_of_images (Audit keys) = false
+
+-- the filter is the auditor, which says by a status of its own that a claim differs
+abbrev pub is_audit : Filter → Bool
+is_audit (Audit keys) = true
+is_audit _ = false

@@ -5,7 +5,7 @@ use Rattle.script_model.specs.World.{same_bytes}
 use Rattle.script_model.specs.declared.Keys.{Keys}
 use Rattle.graft_loader.specs.Keys.{keys_of}
 use Rattle.commands.specs.declared.command_line.Asked.{Asked}
-use Rattle.commands.specs.declared.command_line.Asked.TheVariants.{Run, Box, Check, Reseal, Asm, Dis, Lang}
+use Rattle.commands.specs.declared.command_line.Asked.TheVariants.{Run, Box, Check, Reseal, Asm, Dis, Lang, Audit}
 use Rattle.commands.specs.declared.command_line.Asked.TheVariants.{Demo, Nothing}
 
 -- what a word asks beside keys, if there are some
@@ -15,7 +15,8 @@ asked_with word (Some keys) =
     cond (same_bytes word (codes "run")) (Run keys)
     (cond (same_bytes word (codes "box")) (Box keys false)
     (cond (same_bytes word (codes "check")) (Check keys)
-    (cond (same_bytes word (codes "reseal")) (Reseal keys) Nothing)))
+    (cond (same_bytes word (codes "reseal")) (Reseal keys)
+    (cond (same_bytes word (codes "audit")) (Audit keys) Nothing))))
 
 -- what a word asks beside keys, if there are some, and a third word: `run` and any path, or `box` and
 -- `keep`
@@ -49,8 +50,8 @@ unfoldable pub asked_by_three : (word keys third : List ℕ) → Asked
 asked_by_three word keys third = asked_over word third (keys_of keys)
 
 -- what the words of the command line ask: `run KEYS`, `run KEYS PATH`, `box KEYS`, `box KEYS keep`,
--- `check KEYS`, `reseal KEYS`, `asm`, `dis`, `lang` or `demo N`, keys being 64 hex digits of either
--- case or twice 64 with a comma, and N a number as in scripts
+-- `check KEYS`, `reseal KEYS`, `asm`, `dis`, `lang`, `audit KEYS` or `demo N`, keys being 64 hex digits
+-- of either case or twice 64 with a comma, and N a number as in scripts
 abbrev pub asked_by : List (List ℕ) → Asked
 asked_by (word ∷ []) = asked_by_one word
 asked_by (word ∷ other ∷ []) = asked_by_two word other

@@ -29,6 +29,8 @@ pub(crate) enum Filter {
     Dis,
     /// A text of the graft language is compiled.
     Lang,
+    /// A claim of what a script writes is compared with what it writes, under these keys.
+    Audit(Keys),
 }
 
 /// A status, and the bytes to write.

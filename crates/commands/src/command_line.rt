@@ -30,6 +30,8 @@ pub enum Asked {
     Dis,
     /// `lang`: a text of the graft language is compiled.
     Lang,
+    /// `audit KEYS`: a claim of what a script writes is compared with what it writes.
+    Audit(Keys),
     /// `demo N`: the script of this number is run.
     Demo(u32),
     /// Other words.
@@ -100,6 +102,8 @@ fn asked_keyed(word: &[u8], keys: &[u8]) -> Asked
         Asked::Check(keys)
     } else if word == b"reseal".as_slice() {
         Asked::Reseal(keys)
+    } else if word == b"audit".as_slice() {
+        Asked::Audit(keys)
     } else {
         Asked::Nothing
     }

@@ -1,5 +1,5 @@
-//! The words `box`, `check`, `reseal`, `asm`, `dis` and `lang` of the program: filters that read a
-//! whole input and write one answer.
+//! The words `box`, `check`, `reseal`, `asm`, `dis`, `lang` and `audit` of the program: filters that
+//! read a whole input and write one answer.
 //!
 //! What they answer is said by the definitions of `kernel_model`; docs/FORMATS.md tells the
 //! formats.
@@ -10,7 +10,7 @@ ghost use Rattle.std.specs.Io.KnownBytes.{Appends};
 ghost use Rattle.vino_base.specs.Streams.{AppendsPart, IsUsed};
 ghost use Rattle.script_model.specs.Outcome as outcome;
 ghost use Rattle.script_model.specs.Filters as spec;
-ghost use Rattle.commands.specs.Views.{ending_of, filter_of, is_of_images};
+ghost use Rattle.commands.specs.Views.{ending_of, filter_of, is_of_images, is_audit};
 ghost use Rattle.commands.specs.Filtered.{Filtered};
 
 mod answer;
@@ -24,6 +24,7 @@ mod sealed_to_sealed;
 mod sealed_to_sizes;
 mod text;
 mod text_to_image;
+mod text_to_verdict;
 
 use crate::answer::{Answer, Filter};
 use crate::image_to_text::dis_answer;
@@ -33,6 +34,7 @@ use crate::raw_to_sealed::box_answer;
 use crate::sealed_to_sealed::reseal_answer;
 use crate::sealed_to_sizes::check_answer;
 use crate::text_to_image::asm_answer;
+use crate::text_to_verdict::audit_answer;
 pub use command_line::{Asked, read_words};
 use graft_loader::Keys;
 use script_model::NoMemory;
@@ -53,6 +55,7 @@ fn answer_to(alloc: Global, word: Filter, taken: &[u8], ending: Ending) -> Resul
         (Ending::End, Filter::Asm) => asm_answer(alloc, taken),
         (Ending::End, Filter::Dis) => dis_answer(alloc, taken),
         (Ending::End, Filter::Lang) => lang_answer(alloc, taken),
+        (Ending::End, Filter::Audit(keys)) => audit_answer(alloc, &keys, taken),
         (Ending::Fault, _) => Ok(Answer::new(3, Vec::new(alloc))),
         (Ending::Over, _) => Ok(Answer::new(7, Vec::new(alloc))),
     }
@@ -76,7 +79,8 @@ fn write_answer<K: Sink>(answer: &Answer, out: &mut K) -> u8
 /// Reads the input and writes the answer to it.
 fn filter<S: Source, K: Sink>(alloc: Global, word: Filter, src: &mut S, out: &mut K) -> u8
     ensures statuses { (result ≡ 0) ⊎ (result ≡ 2) ⊎ (result ≡ 3) ⊎ (result ≡ 4) ⊎ (result ≡ 5)
-        ⊎ (result ≡ 6) × (is_of_images word ≡ true) ⊎ (result ≡ 7) }
+        ⊎ (result ≡ 6) × (is_of_images word ≡ true) ⊎ (result ≡ 7)
+        ⊎ (result ≡ 8) × (is_audit word ≡ true) }
     ensures filtered { Filtered (filter_of word) (S.seen src.old) (S.seen src.new) (K.seen out.old)
         (K.seen out.new) result }
 {
@@ -201,4 +205,23 @@ pub fn reseal_image<S: Source, K: Sink>(alloc: Global, keys: &Keys, src: &mut S,
         (K.seen out.new) result }
 {
     filter(alloc, Filter::Reseal(*keys), src, out)
+}
+
+/// Reads a script, a line `%%` and a claim of what `run` with these keys writes for the script over
+/// the sample disk, none of whose calls fails. It writes `yes`, or `no L` with the number, from 1,
+/// of the first line that differs or that only one of the two has; or `input S6` where no line is
+/// `%%`.
+///
+/// The answer is the exit status: 0 for `yes`, 2 for an input without a line `%%`, 3 for a source
+/// and 4 for a sink that failed, 5 for want of memory, 7 for an input of more than 16,777,216
+/// bytes, 8 for `no L`. Nothing is written with 3, 5 and 7.
+pub fn audit<S: Source, K: Sink>(alloc: Global, keys: &Keys, src: &mut S, out: &mut K) -> u8
+    // No other status comes.
+    ensures statuses { (result ≡ 0) ⊎ (result ≡ 2) ⊎ (result ≡ 3) ⊎ (result ≡ 4) ⊎ (result ≡ 5)
+        ⊎ (result ≡ 7) ⊎ (result ≡ 8) }
+    // What it does to its source and its sink, by the status.
+    ensures filtered { Filtered (spec.Audit keys.now) (S.seen src.old) (S.seen src.new)
+        (K.seen out.old) (K.seen out.new) result }
+{
+    filter(alloc, Filter::Audit(*keys), src, out)
 }

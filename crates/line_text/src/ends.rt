@@ -79,5 +79,5 @@ pub fn print_loaded(n: u32, instructions: u32, bytes: u32, out: &mut Text)
 pub fn usage() -> &'static [u8]
     ensures { result.now ≡ line usage_text }
 {
-    b"usage: vino run KEYS [PATH] | box KEYS [keep] | check KEYS | reseal KEYS | asm | dis | lang | demo N\n".as_slice()
+    b"usage: vino run KEYS [PATH] | box KEYS [keep] | check KEYS | reseal KEYS | asm | dis | lang | audit KEYS | demo N\n".as_slice()
 }

@@ -4,8 +4,8 @@ use Rattle.std.proofs.Common.{◌++◌, Option, None, Some, refl, sym, ap, ◌�
 use Rattle.std.proofs.lemmas.Bool.{eqb-true, eq-eqb}
 use Rattle.std.proofs.lemmas.Slice.Eq.{bytes_eq-Decides}
 use Rattle.kernel_data.specs.World.{same_bytes}
-use Rattle.run_audit.specs.declared.Verdict.TheVariants.{Yes, No}
-use Rattle.run_audit.specs.Lines.{last_piece, lines_from, first_difference, verdict_by, verdict}
+use Rattle.script_model.specs.declared.Verdict.TheVariants.{Yes, No}
+use Rattle.script_model.specs.Audits.{last_piece, lines_from, first_difference, verdict_by, verdict}
 use Rattle.run_audit.specs.Progress.{Progress, begun, differing, after_byte, after_bytes, concluded, YesIsEqual}
 
 -- one byte more

@@ -1,10 +1,10 @@
 -- How far a claim was compared: byte by byte, as the code does it.
 use Rattle.std.specs.Prelude.{◌≡◌, ◌≤◌, ℕ, ◌+◌, Bool, true, false, cond, ◌==◌, List, [], ◌∷◌}
 use Rattle.std.specs.Prelude.{drop, length}
-use Rattle.run_audit.specs.Lines.{verdict}
+use Rattle.script_model.specs.Audits.{verdict}
 use Rattle.run_audit.specs.declared.Place.{Place}
-use Rattle.run_audit.specs.declared.Verdict.{Verdict}
-use Rattle.run_audit.specs.declared.Verdict.TheVariants.{Yes, No}
+use Rattle.script_model.specs.declared.Verdict.{Verdict}
+use Rattle.script_model.specs.declared.Verdict.TheVariants.{Yes, No}
 
 -- what is left of the claim, the number of the line that it begins in, and whether that line differs
 pub record Progress : Type 0 where

@@ -5,8 +5,8 @@ ghost use Rattle.script_model.specs.Directory.{sample_disk};
 ghost use Rattle.script_model.specs.Outcome.{SCRIPT_BYTES};
 ghost use Rattle.script_model.specs.Session as model;
 ghost use Rattle.audit_session.specs.Sessions.{session_of, RunIsKept, last_bytes};
-ghost use Rattle.run_audit.specs.Audits.{line_run, still_written, wanted};
-ghost use Rattle.run_audit.specs.Lines.{verdict};
+ghost use Rattle.run_audit.specs.Remaining.{line_run, still_written};
+ghost use Rattle.script_model.specs.Audits.{verdict, wanted};
 ghost use Rattle.run_audit.specs.Progress.{progress_of, begun, after_bytes, concluded, IsWithin};
 
 use crate::comparing::{compare, comparing_decides, conclude, start};

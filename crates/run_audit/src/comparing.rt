@@ -1,7 +1,7 @@
 //! A claim of what a run writes is compared with it, byte by byte.
 
 ghost use Rattle.std.specs.Prelude.{◌≡◌, ◌≤◌, ◌+◌, ℕ, length, true, false};
-ghost use Rattle.run_audit.specs.Lines.{verdict};
+ghost use Rattle.script_model.specs.Audits.{verdict};
 ghost use Rattle.run_audit.specs.Progress.{begun, after_bytes, after_byte, concluded};
 ghost use Rattle.run_audit.specs.Progress.{progress_of, IsWithin, ComparingDecides, YesIsEqual};
 

@@ -7,16 +7,10 @@ mod comparing;
 
 pub use auditing::audit;
 pub use comparing::{compare, comparing_decides, conclude, start, yes_is_equal};
+pub use script_model::Verdict;
 
 /// The most bytes of a claim.
 pub const CLAIM_BYTES: usize = 16_777_216;
-
-/// Whether a claim is what a run writes, and else the number, from 1, of its first line that isn't.
-#[derive(Clone, Copy, PartialEq, Eq, Debug)]
-pub enum Verdict {
-    Yes,
-    No(u32),
-}
 
 /// How far a claim was compared with what a run writes.
 #[derive(Clone, Copy)]

@@ -1,5 +1,5 @@
--- What `box`, `check`, `reseal`, `asm`, `dis` and `lang` write about their input, and with which
--- status they end.
+-- What `box`, `check`, `reseal`, `asm`, `dis`, `lang` and `audit` write about their input, and with
+-- which status they end.
 use Rattle.std.specs.Prelude.{◌≡◌, ℕ, ◌==◌, Bool, true, false, List, [], ◌∷◌, ◌++◌, codes, Option}
 use Rattle.std.specs.Prelude.{None, Some, Result, Ok, Err}
 use Rattle.kernel_data.specs.declared.Instr.{Instr}
@@ -16,7 +16,10 @@ use Rattle.graft_texts.specs.Assembler.{LineFault, assemble, disassemble}
 use Rattle.kernel_data.specs.Bytes.{spaced}
 use Rattle.script_model.specs.Text.{line}
 use Rattle.graft_code.specs.ImageTexts.{load_fault_text, image_text}
+use Rattle.script_model.specs.declared.Verdict.{Verdict}
+use Rattle.script_model.specs.declared.Verdict.TheVariants.{Yes, No}
 use Rattle.script_model.specs.Outcome.{Ending, End, Fault, Over}
+use Rattle.script_model.specs.Audits.{verdict, wanted, parted}
 use Rattle.graft_texts.specs.declared.language.LangKind.{LangKind}
 use Rattle.graft_texts.specs.declared.language.LangKind.TheVariants.{NoToken, NoProgram}
 use Rattle.graft_texts.specs.declared.language.LangKind.TheVariants.{UnknownVariable}
@@ -34,6 +37,7 @@ pub data Filter : Type 0 where
   Asm : Filter
   Dis : Filter
   Lang : Filter
+  Audit : Keys → Filter
 
 -- a status, and the bytes written
 pub record Answer : Type 0 where
@@ -130,9 +134,21 @@ abbrev pub hex_answer : Filter → Result (List ℕ) (List ℕ) → Answer
 hex_answer f (Err text) = answer 2 (line text)
 hex_answer f (Ok bytes) = bytes_answer f bytes
 
+-- a verdict: yes, or the number of the first line that differs
+abbrev pub verdict_answer : Verdict → Answer
+verdict_answer Yes = answer 0 (line (codes "yes"))
+verdict_answer (No n) = answer 8 (line (codes "no" ++ spaced n))
+
+-- what `audit` answers to a script and a claim of what it writes, if the input has a line that parts
+-- them
+abbrev pub audit_answer : Keys → Option (List ℕ × List ℕ) → Answer
+audit_answer keys None = answer 2 (line (codes "input S6"))
+audit_answer keys (Some parts) = verdict_answer (verdict parts.1 (wanted keys parts.0))
+
 -- the answer to a whole input, of every filter but `lang`
 abbrev pub input_answer : Filter → List ℕ → Answer
 input_answer Asm input = asm_answer (assemble input)
+input_answer (Audit keys) input = audit_answer keys (parted input)
 input_answer f input = hex_answer f (hex_line input)
 
 -- the answer to an input that was taken so far and ended so

@@ -45,5 +45,6 @@ pub mod Text
 pub mod Script
 pub mod Session
 pub mod Outcome
+pub mod Audits
 pub mod Filters
 pub mod Demo

@@ -1,5 +1,5 @@
 -- How a script runs, line by line: what each line makes of the session, and what it writes.
-use Rattle.std.specs.Prelude.{ℕ, suc, Bool, true, false, nat_lt, List, [], ◌∷◌, ◌++◌, drop, is_some}
+use Rattle.std.specs.Prelude.{ℕ, suc, Bool, true, false, List, [], ◌∷◌, ◌++◌, drop, is_some}
 use Rattle.std.specs.Prelude.{Option, None, Some, Result, Ok, Err, codes, decimal}
 use Rattle.kernel_data.specs.declared.TheConstants.{LAST_CALLABLE}
 use Rattle.kernel_data.specs.declared.FileRow.{FileRow}

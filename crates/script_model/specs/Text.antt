@@ -1,5 +1,5 @@
 -- The lines that are written, byte for byte: of notes, of raw rows, and of the ends of a run.
-use Rattle.std.specs.Prelude.{ℕ, cond, Bool, List, [], ◌∷◌, ◌++◌, codes, decimal, flat_map, Option, None, Some, length}
+use Rattle.std.specs.Prelude.{ℕ, cond, Bool, List, [], ◌∷◌, ◌++◌, codes, decimal, flat_map, Option, None, Some}
 use Rattle.kernel_data.specs.declared.Object.{Object}
 use Rattle.kernel_data.specs.declared.Object.TheVariants.{Graft, Acct, Cell, OpenFile, Queue, Cache, Lock, Pol}
 use Rattle.kernel_data.specs.declared.Note.{Note}
@@ -204,4 +204,4 @@ left_text p m = codes "left" ++ spaced p ++ spaced m
 -- what is written where the words of the command line are not in the grammar
 abbrev pub usage_text : List ℕ
 usage_text =
-    codes "usage: vino run KEYS [PATH] | box KEYS [keep] | check KEYS | reseal KEYS | asm | dis | lang | demo N"
+    codes "usage: vino run KEYS [PATH] | box KEYS [keep] | check KEYS | reseal KEYS | asm | dis | lang | audit KEYS | demo N"

@@ -51,6 +51,13 @@ pub enum Command {
     Call(CallName),
 }
 
+/// Whether a claim is what a run writes, and else the number, from 1, of its first line that isn't.
+#[derive(Clone, Copy, PartialEq, Eq, Debug)]
+pub enum Verdict {
+    Yes,
+    No(u32),
+}
+
 /// What kind of word stands at a place of a script's line.
 #[derive(Clone, Copy)]
 pub enum Form {

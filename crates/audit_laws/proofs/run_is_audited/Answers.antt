@@ -1,8 +1,7 @@
 use Rattle.std.proofs.Common.{ap, ◌∙◌}
 use Rattle.script_model.specs.Directory.{sample_disk}
 use Rattle.script_model.specs.Outcome.{End, Outcome, written}
-use Rattle.run_audit.specs.Lines.{verdict}
-use Rattle.run_audit.specs.Audits.{wanted}
+use Rattle.script_model.specs.Audits.{verdict, wanted}
 use Rattle.audit_laws.proofs.run_is_audited.Goals as goal
 
 pub returns : goal.returns

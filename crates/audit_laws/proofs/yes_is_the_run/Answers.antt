@@ -1,7 +1,7 @@
 use Rattle.std.proofs.Common.{ap, sym, ◌∙◌}
 use Rattle.script_model.specs.Directory.{sample_disk}
 use Rattle.script_model.specs.Outcome.{End, Outcome, written}
-use Rattle.run_audit.specs.Audits.{wanted}
+use Rattle.script_model.specs.Audits.{wanted}
 use Rattle.audit_laws.proofs.yes_is_the_run.Goals as goal
 
 pub returns : goal.returns
