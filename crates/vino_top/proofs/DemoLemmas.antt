@@ -103,7 +103,7 @@ ran_more c xs ys s t u d e f out more p q =
       comes = λ a from.
           let first = p.comes a from in
           let second = q.comes (all_run c a xs p.ios).session first.stands in
-          subst (λ (w : Written). LineMatches u f.known (joined out more) w [])
+          subst (λ (w : Written). LineMatches c.meaning u f.known (joined out more) w [])
           (sym (all-append c a xs ys p.ios q.ios p.one_each))
           (record {
             stands = second.stands;
@@ -155,7 +155,7 @@ demo_goes_on c all texts later text s t u d e f old new next p q =
 
 -- there was no memory for the next one
 pub demo_stops : (c : Place) (all texts later : List (List ℕ)) (text : List ℕ) (s t : Seen)
-    (d e f : DiskSeen) (old : Tally) → texts ≡ text ∷ later → WantsAt t text → f ≡ e →
+    (d e f : DiskSeen) (old : Tally) → texts ≡ text ∷ later → WantsAt c.meaning t text → f ≡ e →
     DemoReached c all texts s t d e old → DemoStops c all s d f
 demo_stops c all texts later text s t d e f old next wants same p =
     record {
@@ -235,7 +235,7 @@ tells n bytes last lines text notes is last_are =
 -- what is told of lines, whose last lines are the code's
 told_is : (c : Place) (n : ℕ) (a : Session) (texts : List (List ℕ)) (ios : List (List Bool))
     (t : Seen) (known : Option (List (List ℕ))) (out : Left) (text : List ℕ) →
-    LineMatches t known out (all_run c a texts ios) [] →
+    LineMatches c.meaning t known out (all_run c a texts ios) [] →
     text ≡ summary_of n (out.bytes ++ last_bytes t []) out.notes →
     text ≡ summary_by n (all_run c a texts ios)
 told_is c n a texts ios t known out text came is =
@@ -259,16 +259,16 @@ demo_ran n size s t d e tally text Writes begun p is wrote =
       ios = ran.ios;
       one_each = ran.one_each;
       calls = ran.calls;
-      used = λ a first. ran.used a (begun_stands size s d.known a begun first);
+      used = λ a first. ran.used a (begun_stands c.meaning size s d.known a begun first);
       writes = λ a first.
-          let came = ran.comes a (begun_stands size s d.known a begun first) in
+          let came = ran.comes a (begun_stands c.meaning size s d.known a begun first) in
           let known : text ≡ summary_by n (all_run c (first_on size a.blocks) (demo_lines n) ran.ios) =
           told_is c n a (demo_lines n) ran.ios t e.known p.out text came is
           ∙ ap (λ (x : Session). summary_by n (all_run c x (demo_lines n) ran.ios)) first.session in
           subst Writes known wrote;
       blocks = λ a first.
           subst (λ (b : Session). Knows e.known b.blocks) (session_of_all c a (demo_lines n) ran.ios)
-          (ran.comes a (begun_stands size s d.known a begun first)).stands.blocks;
+          (ran.comes a (begun_stands c.meaning size s d.known a begun first)).stands.blocks;
     }
 
 -- there was no memory for an image of it
@@ -287,11 +287,11 @@ demo_lacked n size s d e begun p =
       wants = λ a first.
           subst (λ (b : Session). WantsMemory b p.next) (session_of_all c a p.done p.ran.ios)
           (p.wants e.known (all_run c a p.done p.ran.ios).session
-          (p.ran.comes a (begun_stands size s d.known a begun first)).stands);
-      used = λ a first. p.ran.used a (begun_stands size s d.known a begun first);
+          (p.ran.comes a (begun_stands c.meaning size s d.known a begun first)).stands);
+      used = λ a first. p.ran.used a (begun_stands c.meaning size s d.known a begun first);
       blocks = λ a first.
           subst (λ (b : Session). Knows e.known b.blocks) (session_of_all c a p.done p.ran.ios)
-          (p.ran.comes a (begun_stands size s d.known a begun first)).stands.blocks;
+          (p.ran.comes a (begun_stands c.meaning size s d.known a begun first)).stands.blocks;
     }
 
 -- the same where the lines are the code's

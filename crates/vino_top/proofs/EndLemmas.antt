@@ -11,7 +11,7 @@ use Rattle.std.specs.Prelude.{◌==◌, flat_map, cond, Err}
 use Rattle.std.proofs.lemmas.Bool.Decides.{nat_tests}
 use Rattle.std.proofs.Math.Path.{fun_ext}
 use Rattle.kernel_data.specs.World.{processes}
-use Rattle.script_model.specs.AllCalls.{all_calls}
+use Rattle.script_model.specs.Meaning.{Meaning}
 use Rattle.script_model.specs.Script.{LINE_BYTES, Unfinished}
 use Rattle.script_model.specs.Session.{Session, fault_text}
 use Rattle.script_model.specs.Kernel.{Kernel, Call}
@@ -42,9 +42,9 @@ use Rattle.vino_top.proofs.RunLemmas.{fed_none, fed_more, fed_short, stops_fed, 
 -- ---- where a run stands
 
 -- it stands for a first session
-pub begun_stands : (size : ℕ) (s : Seen) (known : Option (List (List ℕ))) (a : Session) →
-    IsBegun s → IsFirst size known a → StandsFor s known a
-begun_stands size s known a begun first =
+pub begun_stands : (m : Meaning) (size : ℕ) (s : Seen) (known : Option (List (List ℕ))) (a : Session) →
+    IsBegun s → IsFirst size known a → StandsFor m s known a
+begun_stands m size s known a begun first =
     record {
       setup = ap (λ (x : Session). x.setup) first.session ∙ sym begun.setup;
       lines = ap (λ (x : Session). x.lines) first.session ∙ sym begun.lines;
@@ -140,12 +140,13 @@ ran_by : (c : Place) (s t : Seen) (x y : SourceSeen) (r2 : Option (List ℕ)) (k
     (last : List ℕ) →
     IsBegun s → (p : Reached c s t x.rest r2 k.got g2 d e l left) → Consumes r2 y.rest [] → Appends g2 m.got last →
     (t.refused ≡ true) ⊎ HasEnded ending p.taken x y → EndsAs (parsed_of t) ending l status last →
-    ((a : Session) (pieces : List (List ℕ)) → StandsFor t e.known a →
+    ((a : Session) (pieces : List (List ℕ)) → StandsFor c.meaning t e.known a →
     EndsSo (outcome_of ending a pieces l) a pieces status last) →
     Ran c (devices x k d) (devices y m e) status
 ran_by c s t x y r2 k m g2 d e l left status ending last begun p kept more ended ends out =
     let lines = script_lines p.taken in
-    let from = λ (a : Session) (first : IsFirst c.size d.known a). begun_stands c.size s d.known a begun first in
+    let from = λ (a : Session) (first : IsFirst c.size d.known a).
+    begun_stands c.meaning c.size s d.known a begun first in
     let is = λ (a : Session) (first : IsFirst c.size d.known a).
     outcome_is c a p.taken ending p.fed.ios first.session
     ∙ ap (outcome_of ending (lines_run c a lines p.fed.ios) (pieces_run c a lines p.fed.ios)) (sym p.fed.line_is) in
@@ -178,8 +179,8 @@ ran_by c s t x y r2 k m g2 d e l left status ending last begun p kept more ended
     }
 
 -- what a session of the code says of the abstract one
-refused_as : (t : Seen) (known : Option (List (List ℕ))) (a : Session) (b : Bool) →
-    StandsFor t known a → t.refused ≡ b → a.refused ≡ b
+refused_as : {m : Meaning} (t : Seen) (known : Option (List (List ℕ))) (a : Session) (b : Bool) →
+    StandsFor m t known a → t.refused ≡ b → a.refused ≡ b
 refused_as t known a b stands h = stands.refused ∙ h
 
 -- the line of a call that is left, in place
@@ -188,15 +189,15 @@ left_line_is p None = refl
 left_line_is p (Some c) = refl
 
 -- the lines of all that are left
-left_is : (x : Placed) (k : Kernel) → kernels.StandsFor all_calls x k →
+left_is : {m : Meaning} (x : Placed) (k : Kernel) → kernels.StandsFor m x k →
     placed_left_lines x ≡ flat_map (λ p. left_line p (k.call p)) processes
 left_is x k stands =
     ap (λ (f : ℕ → List ℕ). flat_map f processes)
     (fun_ext (λ p. ap (placed_left_line p) (stands.calls p) ∙ left_line_is p (k.call p)))
 
 -- the same by whether `boot` was run
-pub left_by : (t : Seen) (known : Option (List (List ℕ))) (a : Session) (b : Bool) →
-    StandsFor t known a → t.booted ≡ b →
+pub left_by : {m : Meaning} (t : Seen) (known : Option (List (List ℕ))) (a : Session) (b : Bool) →
+    StandsFor m t known a → t.booted ≡ b →
     cond b (placed_left_lines t.placed) [] ≡ left_lines a.kernel
 left_by t known a false stands h = ap left_lines (sym (stands.unbooted h))
 left_by t known a true stands h =
@@ -242,8 +243,8 @@ ran_stopped c s t x y k m d e l left begun p refused =
     (refused_as t e.known a true stands refused)) (ends_plain 2 a pieces))
 
 -- the end of the input: behind a newline, or behind other bytes
-end_so : (t : Seen) (known : Option (List (List ℕ))) (a : Session)
-    (pieces : List (List ℕ)) (l : List ℕ) → StandsFor t known a →
+end_so : {m : Meaning} (t : Seen) (known : Option (List (List ℕ))) (a : Session)
+    (pieces : List (List ℕ)) (l : List ℕ) → StandsFor m t known a →
     EndsSo (at_end a pieces l) a pieces (last_status l) (last_bytes t l)
 end_so t known a pieces [] stands =
     subst (λ (bytes : List ℕ). EndsSo (at_end a pieces []) a pieces 0 bytes)
@@ -283,7 +284,7 @@ ran_finish c s t x y r2 k m g2 d e l left status begun p going some kept end don
 stopped : (c : Place) (s t : Seen) (r r2 r3 g g2 g3 : Option (List ℕ)) (d e f : DiskSeen)
     (l : List ℕ) (left n : ℕ) (given : List ℕ) (stop : Stop) →
     IsBegun s → (p : Reached c s t r r2 g g2 d e l left) → 0 < left →
-    StopsAt c (StandsFor t e.known) (lines_after l (take (left - 1) given)) g2 g3 e f stop →
+    StopsAt c (StandsFor c.meaning t e.known) (lines_after l (take (left - 1) given)) g2 g3 e f stop →
     StopsAt c (IsFirst c.size d.known) (script_lines (p.taken ++ given)) g g3 d f stop
 stopped c s t r r2 r3 g g2 g3 d e f l left n given stop begun p some q =
     let script = script_more p.taken given left p.count some in
@@ -291,9 +292,9 @@ stopped c s t r r2 r3 g g2 g3 d e f l left n given stop begun p some q =
     rw script
     (subst (λ x. StopsAt c (IsFirst c.size d.known) (lines_after [] x) g g3 d f stop)
     (append-nil (take SCRIPT_BYTES p.taken ++ take (left - 1) given))
-    (stops_from c (StandsFor s d.known) (IsFirst c.size d.known)
+    (stops_from c (StandsFor c.meaning s d.known) (IsFirst c.size d.known)
     (lines_after [] ((take SCRIPT_BYTES p.taken ++ take (left - 1) given) ++ [])) g g3 d f stop
-    (λ a first. begun_stands c.size s d.known a begun first) all))
+    (λ a first. begun_stands c.meaning c.size s d.known a begun first) all))
 
 -- the sink failed at a line
 pub broke_fed : (c : Place) (s t : Seen) (x y : SourceSeen) (k m : SinkSeen) (r2 g2 : Option
@@ -301,7 +302,7 @@ pub broke_fed : (c : Place) (s t : Seen) (x y : SourceSeen) (k m : SinkSeen) (r2
     IsBegun s → Reached c s t x.rest r2 k.got g2 d e l left → 0 < left → length given ≡ n →
     n ≤ left → Consumes r2 y.rest given →
     script ≡ take (left - 1) given → stop_status stop ≡ 4 →
-    StopsAt c (StandsFor t e.known) (lines_after l script) g2 m.got e f stop →
+    StopsAt c (StandsFor c.meaning t e.known) (lines_after l script) g2 m.got e f stop →
     Broke c (devices x k d) (devices y m f)
 broke_fed c s t x y k m r2 g2 d e f l left n given script SinkFailed begun p some count most consumed is four q =
     record {
@@ -322,7 +323,7 @@ pub lacked_fed : (c : Place) (s t : Seen) (x y : SourceSeen) (k m : SinkSeen) (r
     IsBegun s → Reached c s t x.rest r2 k.got g2 d e l left → 0 < left → length given ≡ n →
     n ≤ left → Consumes r2 y.rest given →
     script ≡ take (left - 1) given → stop_status stop ≡ 5 →
-    StopsAt c (StandsFor t e.known) (lines_after l script) g2 m.got e f stop →
+    StopsAt c (StandsFor c.meaning t e.known) (lines_after l script) g2 m.got e f stop →
     Lacked c (devices x k d) (devices y m f)
 lacked_fed c s t x y k m r2 g2 d e f l left n given script SinkFailed begun p some count most
     consumed is five q =
@@ -343,7 +344,8 @@ pub broke_finish : (c : Place) (s t : Seen) (x y : SourceSeen) (k m : SinkSeen)
     AppendsPart g2 m.got (last_bytes t l) → Broke c (devices x k d) (devices y m e)
 broke_finish c s t x y k m r2 g2 d e l left begun p going some kept end cut =
     let lines = script_lines p.taken in
-    let from = λ (a : Session) (first : IsFirst c.size d.known a). begun_stands c.size s d.known a begun first in
+    let from = λ (a : Session) (first : IsFirst c.size d.known a).
+    begun_stands c.meaning c.size s d.known a begun first in
     let so = λ (a : Session) (first : IsFirst c.size d.known a).
     let b = lines_run c a lines p.fed.ios in
     let stands = p.fed.stands a (from a first) in

@@ -5,7 +5,7 @@ use Rattle.std.proofs.Common.{ap, subst, add-one}
 use Rattle.std.specs.Prelude.{nat_lt}
 use Rattle.std.proofs.lemmas.Bool.Decides.{nat_tests}
 use Rattle.kernel_data.specs.World.{Image, ImageTable}
-use Rattle.script_model.specs.AllCalls.{all_calls}
+use Rattle.script_model.specs.Meaning.{Meaning}
 use Rattle.script_model.specs.Sound.{IsAtRest}
 use Rattle.vino_base.specs.Disks.{DiskSeen}
 use Rattle.kernel_core.specs.declared.images.ImageRefusal.TheVariants.{BadSlot, Taken}
@@ -19,10 +19,10 @@ use Rattle.script_model.specs.Script.{Entry, Loads, parsed_line}
 use Rattle.script_model.specs.ImageLines.{image_answer}
 use Rattle.script_model.specs.Session.{after_image, after_entry, running_in}
 use Rattle.script_model.specs.Text.{line}
-use Rattle.vino_top.specs.Built.{present_build}
+use Rattle.vino_top.specs.Built.{build_over}
 use Rattle.vino_top.specs.Standing.{Seen}
 use Rattle.vino_top.specs.Run.{Place, Left, LeavesText, LineMatches, LoadsFree, WantsAt, RunsEntry}
-use Rattle.vino_top.specs.Bounds.{IsSessionWithin, IsOnLine}
+use Rattle.vino_top.specs.Bounds.{IsSessionOver, IsOnLine}
 use Rattle.vino_top.specs.declared.session.Session.{Session}
 use Rattle.vino_top.proofs.SessionLemmas.{alone, up_is_down}
 
@@ -39,8 +39,8 @@ pub free_slot : (images : ImageTable) (slot : ℕ) → slot_refused images slot 
 free_slot images slot free = slot_is_free (nat_lt 31 slot) (is_some (images slot)) images slot refl refl free
 
 -- a slot of a kernel in place has an image where that of the abstract one has
-pub same_slot : (x : Placed) (k : abstract.Kernel) (slot : ℕ) (b : Bool) →
-    kernels.StandsFor all_calls x k → is_some (x.images slot) ≡ b → is_some (k.images slot) ≡ b
+pub same_slot : {m : Meaning} (x : Placed) (k : abstract.Kernel) (slot : ℕ) (b : Bool) →
+    kernels.StandsFor m x k → is_some (x.images slot) ≡ b → is_some (k.images slot) ≡ b
 same_slot x k slot b stands h = ap (λ (t : ImageTable). is_some (t slot)) (sym stands.images) ∙ h
 
 -- a slot that is free has no image
@@ -49,9 +49,10 @@ no_image None h = refl
 no_image (Some i) h = up_is_down h
 
 -- a line that loads an image into a slot that is free, once it is counted, wants memory
-pub wants_free : (s : Seen) (text : List ℕ) (e : Entry) → s.refused ≡ false → parsed_line s.booted text ≡ Ok e →
-    LoadsFree (record s { lines = s.lines + 1 }) e → WantsAt s text
-wants_free s text e going is loads = λ known a stands.
+pub wants_free : (m : Meaning) (s : Seen) (text : List ℕ) (e : Entry) → s.refused ≡ false →
+    parsed_line s.booted text ≡ Ok e →
+    LoadsFree (record s { lines = s.lines + 1 }) e → WantsAt m s text
+wants_free m s text e going is loads = λ known a stands.
     let has = stands.booted loads.booted in
     record {
       going = stands.refused ∙ going;
@@ -70,8 +71,8 @@ wants_free s text e going is loads = λ known a stands.
 pub image_runs : (c : Place) (s t : Seen) (slot : ℕ) (bytes : List ℕ) (y : Placed) (answer : List ℕ)
     (out : Left) (d : DiskSeen) →
     s.booted ≡ true → t ≡ record s { placed = y; events = s.events + 1 } →
-    ((k : abstract.Kernel) → kernels.StandsFor all_calls s.placed k → IsAtRest all_calls k →
-    ImageIsAdded all_calls slot (load c.keys bytes) k y answer) →
+    ((k : abstract.Kernel) → kernels.StandsFor c.meaning s.placed k → IsAtRest c.meaning k →
+    ImageIsAdded c.meaning slot (load c.keys bytes) k y answer) →
     LeavesText out (line (decimal (s.events + 1) ++ 32 ∷ answer)) → RunsEntry c (Loads slot bytes) s t d d out
 image_runs c s t slot bytes y answer out d booted state said written =
     let u = record s { placed = y; events = s.events + 1 } in
@@ -82,11 +83,12 @@ image_runs c s t slot bytes y answer out d booted state said written =
     let number : s.events + 1 ≡ n = add-one s.events ∙ ap suc (sym stands.events) in
     let new = said has.kernel has.stands has.rests in
     let left_over = (image_answer slot (load c.keys bytes) has.kernel).0 in
-    let run : after_entry present_build c.keys c.size a (Loads slot bytes) rest
+    let run : after_entry (build_over c.meaning) c.keys c.size a (Loads slot bytes) rest
     ≡ after_image a n (left_over, answer) rest =
-    ap (λ (o : Option abstract.Kernel). running_in present_build c.keys c.size a (Loads slot bytes) o rest) has.is
+    ap (λ (o : Option abstract.Kernel). running_in (build_over c.meaning) c.keys c.size a
+    (Loads slot bytes) o rest) has.is
     ∙ ap (λ (text : List ℕ). after_image a n (left_over, text) rest) new.said_is in
-    subst (λ w. LineMatches u d.known out w rest) (sym run) (record {
+    subst (λ w. LineMatches c.meaning u d.known out w rest) (sym run) (record {
       stands = record {
         setup = stands.setup;
         lines = stands.lines;
@@ -102,13 +104,14 @@ image_runs c s t slot bytes y answer out d booted state said written =
     })))
 
 -- one event more, in a session whose kernel runs and has the same store
-pub one_later : {B : Type 0} {P : _} (size : ℕ) (s t u : Session B P) → s.booted ≡ true → s.events < s.lines →
+pub one_later : {C B M : Type 0} {P : _} {m : Meaning} (size : ℕ) (s t u : Session C B M P) →
+    s.booted ≡ true → s.events < s.lines →
     t ≡ record s { kernel = u.kernel; events = s.events + 1 } →
     u.kernel.running.store ≡ s.kernel.running.store →
-    IsKernel all_calls s.events u.kernel.running →
-    IsSessionWithin size s → IsSessionWithin size t
-one_later size s t u up fresh state store kernel within =
-    subst (λ (x : Session _ _). IsSessionWithin size x) (sym state) (record {
+    IsKernel m s.events u.kernel.running →
+    IsSessionOver m size s → IsSessionOver m size t
+one_later {m = m} size s t u up fresh state store kernel within =
+    subst (λ (x : Session _ _ _ _). IsSessionOver m size x) (sym state) (record {
       frames_least = within.frames_least;
       frames_most = within.frames_most;
       events = omega (arith, fresh);
@@ -123,11 +126,11 @@ one_later size s t u up fresh state store kernel within =
     })
 
 -- a session whose line was counted and refused
-pub refused_later : {B : Type 0} {P : _} (size : ℕ) (s t : Session B P) →
+pub refused_later : {C B M : Type 0} {P : _} {m : Meaning} (size : ℕ) (s t : Session C B M P) →
     t ≡ record s { lines = s.lines + 1; refused = true } →
-    IsSessionWithin size s → IsSessionWithin size t
-refused_later size s t state within =
-    subst (λ (x : Session _ _). IsSessionWithin size x) (sym state) (record {
+    IsSessionOver m size s → IsSessionOver m size t
+refused_later {m = m} size s t state within =
+    subst (λ (x : Session _ _ _ _). IsSessionOver m size x) (sym state) (record {
       frames_least = within.frames_least;
       frames_most = within.frames_most;
       events = omega (arith, within.events);
@@ -137,8 +140,9 @@ refused_later size s t state within =
     })
 
 -- a session whose line was counted
-pub on_line : {B : Type 0} {P : _} (size : ℕ) (s : Session B P) → s.lines < 2 ^ 32 - 2 → IsSessionWithin size s →
-    IsOnLine size (record s { lines = s.lines + 1 })
+pub on_line : {C B M : Type 0} {P : _} {m : Meaning} (size : ℕ) (s : Session C B M P) →
+    s.lines < 2 ^ 32 - 2 → IsSessionOver m size s →
+    IsOnLine m size (record s { lines = s.lines + 1 })
 on_line size s room within =
     record {
       room = omega (arith, room);

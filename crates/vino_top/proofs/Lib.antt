@@ -1,4 +1,3 @@
-pub mod CallLaws
 pub mod PlaceLemmas
 pub mod ParsedLemmas
 pub mod TextLawLemmas

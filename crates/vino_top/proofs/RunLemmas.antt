@@ -94,15 +94,15 @@ same_told known x y p q = same_some x y (sym p ∙ q)
 
 -- what comes of a line with its own calls alone
 pub comes_alone : (c : Place) (text : List ℕ) (s t : Seen) (d e : DiskSeen) (out : Left)
-    (r : RunsLine c text s t d e out) (a : Session) → StandsFor s d.known a →
-    LineMatches t e.known out (line_run c a text r.io) []
+    (r : RunsLine c text s t d e out) (a : Session) → StandsFor c.meaning s d.known a →
+    LineMatches c.meaning t e.known out (line_run c a text r.io) []
 comes_alone c text s t d e out r a from =
-    subst (λ io. LineMatches t e.known out (line_run c a text io) []) (append-nil r.io)
+    subst (λ io. LineMatches c.meaning t e.known out (line_run c a text io) []) (append-nil r.io)
     (r.comes a [] from)
 
 -- a line makes its calls, no fewer and no more
 pub line_uses : (c : Place) (text : List ℕ) (s t : Seen) (d e : DiskSeen) (out : Left)
-    (r : RunsLine c text s t d e out) (a : Session) → StandsFor s d.known a →
+    (r : RunsLine c text s t d e out) (a : Session) → StandsFor c.meaning s d.known a →
     Uses c a text r.io
 line_uses c text s t d e out r a from =
     let now = comes_alone c text s t d e out r a from in
@@ -205,7 +205,7 @@ pub fed_line : (c : Place) (s t : Seen) (l m n : List ℕ) (byte : ℕ) (g h : O
 fed_line c s t l m n byte g h d e ends is empty p =
     let ended = lines_ended l byte [] ends in
     let r = p.runs in
-    let comes = λ (a : Session) (from : StandsFor s d.known a). comes_alone c m s t d e p.out r a from in
+    let comes = λ (a : Session) (from : StandsFor c.meaning s d.known a). comes_alone c m s t d e p.out r a from in
     record {
       ios = r.io ∷ [];
       one_each = rw ended refl;
@@ -313,8 +313,8 @@ order_later first done later third next second is =
 -- Some lines were run, and why the run stopped among others; then this is why it stopped among all.
 stops_later : (c : Place) (s t : Seen) (l m xs : List ℕ) (second third : List (List ℕ))
     (g h k : Option (List ℕ)) (d e f : DiskSeen) (stop : Stop) →
-    Feeds c s t l m xs g h d e → StopsAt c (StandsFor t e.known) second h k e f stop →
-    StopsAt c (StandsFor s d.known) ((lines_after l xs ++ second) ++ third) g k d f stop
+    Feeds c s t l m xs g h d e → StopsAt c (StandsFor c.meaning t e.known) second h k e f stop →
+    StopsAt c (StandsFor c.meaning s d.known) ((lines_after l xs ++ second) ++ third) g k d f stop
 stops_later c s t l m xs second third g h k d e f SinkFailed p q =
     let first = lines_after l xs in
     record {
@@ -383,8 +383,8 @@ stops_later c s t l m xs second third g h k d e f NoMemory p q =
 -- why the run stopped at some bytes, among others
 pub stops_fed : (c : Place) (s t : Seen) (l m xs ys zs : List ℕ) (g h k : Option (List ℕ))
     (d e f : DiskSeen) (stop : Stop) →
-    Feeds c s t l m xs g h d e → StopsAt c (StandsFor t e.known) (lines_after m ys) h k e f stop →
-    StopsAt c (StandsFor s d.known) (lines_after l ((xs ++ ys) ++ zs)) g k d f stop
+    Feeds c s t l m xs g h d e → StopsAt c (StandsFor c.meaning t e.known) (lines_after m ys) h k e f stop →
+    StopsAt c (StandsFor c.meaning s d.known) (lines_after l ((xs ++ ys) ++ zs)) g k d f stop
 stops_fed c s t l m xs ys zs g h k d e f stop p q =
     let second = lines_after (rest_after l xs) ys in
     let third = lines_after (rest_after l (xs ++ ys)) zs in
@@ -395,13 +395,13 @@ stops_fed c s t l m xs ys zs g h k d e f stop p q =
 pub stops_next : (c : Place) (s t : Seen) (l m bytes : List ℕ) (i : ℕ) (g h k : Option (List ℕ))
     (d e f : DiskSeen) (stop : Stop) → i < length bytes →
     Feeds c s t l m (take i bytes) g h d e →
-    StopsAt c (StandsFor t e.known) (lines_after m (get_or bytes i 0 ∷ [])) h k e f stop →
-    StopsAt c (StandsFor s d.known) (lines_after l bytes) g k d f stop
+    StopsAt c (StandsFor c.meaning t e.known) (lines_after m (get_or bytes i 0 ∷ [])) h k e f stop →
+    StopsAt c (StandsFor c.meaning s d.known) (lines_after l bytes) g k d f stop
 stops_next c s t l m bytes i g h k d e f stop below p q =
     let byte = get_or bytes i 0 ∷ [] in
     let whole : (take i bytes ++ byte) ++ drop (i + 1) bytes ≡ bytes =
     ap (λ front. front ++ drop (i + 1) bytes) (sym (take_more bytes i 0 below)) ∙ take-append-drop (i + 1) bytes in
-    subst (λ x. StopsAt c (StandsFor s d.known) (lines_after l x) g k d f stop) whole
+    subst (λ x. StopsAt c (StandsFor c.meaning s d.known) (lines_after l x) g k d f stop) whole
     (stops_fed c s t l m (take i bytes) byte (drop (i + 1) bytes) g h k d e f stop p q)
 
 -- why a run stopped, from fewer sessions
@@ -453,7 +453,7 @@ pub line_written : {T : Type 0} → (c : Place) (text : List ℕ) (s t : Seen) (
     (g h : Option (List ℕ)) (d e : DiskSeen) (r : Result T Stop) →
     RunsLine c text s t d e out → t.lines ≤ s.lines + 1 →
     MatchResult r (λ _. Appends g h out.bytes) (λ stop. (stop ≡ SinkFailed) × AppendsPart g h out.bytes) →
-    MatchResult r (λ _. TakesLine c text s t g h d e) (StopsAt c (StandsFor s d.known) (text ∷ []) g h d e)
+    MatchResult r (λ _. TakesLine c text s t g h d e) (StopsAt c (StandsFor c.meaning s d.known) (text ∷ []) g h d e)
 line_written c text s t out g h d e (Ok x) runs lines p =
     record { lines = lines; out = out; appended = p; runs = runs }
 line_written c text s t out g h d e (Err stop) runs lines p =
@@ -477,8 +477,8 @@ line_written c text s t out g h d e (Err stop) runs lines p =
 
 -- there was no memory for a line
 pub line_lacks : (c : Place) (text : List ℕ) (s : Seen) (g : Option (List ℕ)) (d e : DiskSeen) →
-    e ≡ d → WantsAt s text →
-    StopsAt c (StandsFor s d.known) (text ∷ []) g g d e NoMemory
+    e ≡ d → WantsAt c.meaning s text →
+    StopsAt c (StandsFor c.meaning s d.known) (text ∷ []) g g d e NoMemory
 line_lacks c text s g d e same wants =
     rw same (record {
       done = [];
@@ -499,9 +499,9 @@ pub line_ended : {T : Type 0} → (c : Place) (l m n : List ℕ) (byte : ℕ) (s
     (g h : Option (List ℕ)) (d e : DiskSeen) (r : Result T Stop) → ends_line l byte ≡ true →
     ended_line l byte ≡ m →
     OnOk r (n ≡ []) → MatchResult r (λ _. TakesLine c m s t g h d e)
-    (StopsAt c (StandsFor s d.known) (m ∷ []) g h d e) →
+    (StopsAt c (StandsFor c.meaning s d.known) (m ∷ []) g h d e) →
     MatchResult r (λ _. Feeds c s t l n (byte ∷ []) g h d e)
-    (StopsAt c (StandsFor s d.known) (lines_after l (byte ∷ [])) g h d e)
+    (StopsAt c (StandsFor c.meaning s d.known) (lines_after l (byte ∷ [])) g h d e)
 line_ended c l m n byte s t g h d e (Ok x) ends is empty p = fed_line c s t l m n byte g h d e ends is empty p
 line_ended c l m n byte s t g h d e (Err stop) ends is empty p = rw (lines_ended l byte [] ends, is) p
 
@@ -541,8 +541,8 @@ whole_fed c s t u l m k bytes part i n g h v d e f is whole p empty q =
 pub whole_stops : (c : Place) (s t : Seen) (l m bytes part : List ℕ) (i n : ℕ) (g h v : Option
     (List ℕ)) (d e f : DiskSeen) (stop : Stop) → part ≡ drop i bytes → IsWholeLine m part n →
     Feeds c s t l m (take i bytes) g h d e →
-    StopsAt c (StandsFor t e.known) (take n part ∷ []) h v e f stop →
-    StopsAt c (StandsFor s d.known) (lines_after l bytes) g v d f stop
+    StopsAt c (StandsFor c.meaning t e.known) (take n part ∷ []) h v e f stop →
+    StopsAt c (StandsFor c.meaning s d.known) (lines_after l bytes) g v d f stop
 whole_stops c s t l m bytes part i n g h v d e f stop is whole p q =
     stops_next c s t l (take n part) bytes (i + n) g h v d e f stop (whole_inside m bytes part i n
     is whole) (whole_before c s t l m bytes part i n g h d e is whole p)

@@ -28,7 +28,7 @@ use Rattle.script_model.specs.Session.{with_patience, after_parse, after_entry, 
 use Rattle.script_model.specs.Session.{running_in, says, silent}
 use Rattle.script_model.specs.Events.{event}
 use Rattle.script_model.specs.RawRows.{raw_rows}
-use Rattle.script_model.specs.AllCalls.{all_calls}
+use Rattle.script_model.specs.Meaning.{Meaning}
 use Rattle.std.proofs.lemmas.Fmt.{decimal_digit}
 use Rattle.kernel_data.specs.declared.Note.TheVariants.{Refused}
 use Rattle.kernel_data.specs.declared.Refusal.TheVariants.{DiskFault}
@@ -42,7 +42,7 @@ use Rattle.placed_laws.specs.PlacedRows.{placed_rows}
 use Rattle.kernel_core.specs.EventRefines.{EventRefines, EventIs}
 use Rattle.kernel_core.specs.declared.kernel.BootNote.{BootNote}
 use Rattle.kernel_core.specs.Standing.{Booted, BootIs}
-use Rattle.vino_top.specs.Built.{present_build}
+use Rattle.vino_top.specs.Built.{build_over}
 use Rattle.vino_top.specs.Standing.{Seen, StandsFor, setup_of, code_seen}
 use Rattle.vino_top.specs.Parsed.{Parsed, parsed_entry}
 use Rattle.vino_top.specs.Run.{Place, line_run, parsed_of, Left, LeavesText, LineMatches, RunsLine}
@@ -79,13 +79,13 @@ first_patience = ap (λ (f : ℕ → ℕ). record first_setup { patience = f }) 
 -- ---- entries
 
 -- the next number of an event
-next_number : (s : Seen) (known : Option (List (List ℕ))) (a : Session) → StandsFor s known a →
+next_number : {m : Meaning} (s : Seen) (known : Option (List (List ℕ))) (a : Session) → StandsFor m s known a →
     s.events + 1 ≡ suc a.events
 next_number s known a stands = add-one s.events ∙ ap suc (sym stands.events)
 
 -- a session goes on by an event, and writes the lines of its notes
 pub event_runs : (c : Place) (s : Seen) (x : Placed) (what : Event) (notes : List Note) (out : Left) (d e : DiskSeen) →
-    s.booted ≡ true → EventRefines all_calls s.placed x (s.events + 1) what notes d e →
+    s.booted ≡ true → EventRefines c.meaning s.placed x (s.events + 1) what notes d e →
     out.bytes ≡ note_lines notes → out.notes ≡ notes →
     RunsEntry c (Happens what) s (record s { placed = x; events = s.events + 1 }) d e out
 event_runs c s x what notes out d e booted h text kept =
@@ -99,14 +99,15 @@ event_runs c s x what notes out d e booted h text kept =
           let io = h.io ++ rest in
           let n = suc a.events in
           let number = next_number s d.known a stands in
-          let r = event all_calls has.kernel a.blocks n what io in
-          let is : EventIs all_calls r x notes e.known rest =
-          subst (λ (m : ℕ). EventIs all_calls
-          (event all_calls has.kernel a.blocks m what io) x notes e.known rest) number
+          let r = event c.meaning has.kernel a.blocks n what io in
+          let is : EventIs c.meaning r x notes e.known rest =
+          subst (λ (m : ℕ). EventIs c.meaning
+          (event c.meaning has.kernel a.blocks m what io) x notes e.known rest) number
           (h.is has.kernel a.blocks rest has.stands has.rests stands.blocks) in
-          let run : after_entry present_build c.keys c.size a (Happens what) io ≡ after_event a n r =
-          ap (λ (o : Option abstract.Kernel). running_in present_build c.keys c.size a (Happens what) o io) has.is in
-          subst (λ w. LineMatches (record s { placed = x; events = s.events + 1 }) e.known out w
+          let run : after_entry (build_over c.meaning) c.keys c.size a (Happens what) io ≡ after_event a n r =
+          ap (λ (o : Option abstract.Kernel). running_in (build_over c.meaning) c.keys c.size a
+          (Happens what) o io) has.is in
+          subst (λ w. LineMatches c.meaning (record s { placed = x; events = s.events + 1 }) e.known out w
           rest) (sym run) (record {
             stands = record {
               setup = stands.setup;
@@ -126,11 +127,11 @@ event_runs c s x what notes out d e booted h text kept =
 -- what comes of a boot: block 0 was read, or that failed
 boot_comes : (c : Place) (s : Seen) (x : Placed) (io : List Bool) (note : BootNote) (out : Left)
     (known told_new : Option (List (List ℕ))) (a : Session) (rest : List Bool) →
-    length io ≡ 1 → StandsFor s known a →
-    BootIs all_calls s.setup c.size a.blocks io x note told_new →
+    length io ≡ 1 → StandsFor c.meaning s known a →
+    BootIs c.meaning s.setup c.size a.blocks io x note told_new →
     LeavesText out (line (boot_line note)) →
-    LineMatches (record s { placed = x; booted = true }) told_new out
-    (after_entry present_build c.keys c.size a Boot (io ++ rest)) rest
+    LineMatches c.meaning (record s { placed = x; booted = true }) told_new out
+    (after_entry (build_over c.meaning) c.keys c.size a Boot (io ++ rest)) rest
 boot_comes c s x (true ∷ []) note out known told_new a rest one stands is said =
     record {
       stands = record {
@@ -179,7 +180,7 @@ boot_comes c s x (y ∷ z ∷ io) note out known told_new a rest one stands is s
 
 -- a session once the kernel began
 pub boot_runs : (c : Place) (s : Seen) (x : Placed) (note : BootNote) (out : Left) (d e : DiskSeen) →
-    Booted all_calls s.setup c.size x note d e → LeavesText out (line (boot_line note)) →
+    Booted c.meaning s.setup c.size x note d e → LeavesText out (line (boot_line note)) →
     RunsEntry c Boot s (record s { placed = x; booted = true }) d e out
 boot_runs c s x note out d e h said =
     record {
@@ -199,8 +200,8 @@ boot_runs c s x note out d e h said =
 pub alone : (c : Place) (entry : Entry) (s t : Seen) (out : Left) (d : DiskSeen) →
     parsed_of t ≡ parsed_entry (parsed_of s) entry →
     TellsFailures s.setup.frames c.size entry out [] →
-    ((a : Session) (rest : List Bool) → StandsFor s d.known a →
-    LineMatches t d.known out (after_entry present_build c.keys c.size a entry rest) rest) →
+    ((a : Session) (rest : List Bool) → StandsFor c.meaning s d.known a →
+    LineMatches c.meaning t d.known out (after_entry (build_over c.meaning) c.keys c.size a entry rest) rest) →
     RunsEntry c entry s t d d out
 alone c entry s t out d parsed told comes =
     record { io = []; made = made_none d; parsed = parsed; told = told; comes = comes }
@@ -216,9 +217,9 @@ blank_runs c s out d silent =
     })
 
 -- a session with another set-up
-set_up : (s : Seen) (u : _) (known : Option (List (List ℕ))) (a : Session) (v : Setup) →
-    v ≡ setup_of u → StandsFor s known a →
-    StandsFor (record s { setup = u }) known (record a { setup = v })
+set_up : {m : Meaning} (s : Seen) (u : _) (known : Option (List (List ℕ))) (a : Session) (v : Setup) →
+    v ≡ setup_of u → StandsFor m s known a →
+    StandsFor m (record s { setup = u }) known (record a { setup = v })
 set_up s u known a v is stands =
     record {
       setup = is;
@@ -287,16 +288,16 @@ silent_event frames size out what said =
 -- an entry after `boot` that stands before it
 pub unbooted_runs : (c : Place) (entry : Entry) (s : Seen) (out : Left) (d : DiskSeen) →
     ((a : Session) (rest : List Bool) →
-    after_entry present_build c.keys c.size a entry rest
-    ≡ running_in present_build c.keys c.size a entry a.kernel rest) →
+    after_entry (build_over c.meaning) c.keys c.size a entry rest
+    ≡ running_in (build_over c.meaning) c.keys c.size a entry a.kernel rest) →
     ((p : Parsed) → p ≡ parsed_entry p entry) → s.booted ≡ false → LeavesText out [] →
     TellsFailures s.setup.frames c.size entry out [] → RunsEntry c entry s s d d out
 unbooted_runs c entry s out d runs parsed booted said told =
     alone c entry s s out d (parsed (parsed_of s)) told (λ a rest stands.
-    let run : after_entry present_build c.keys c.size a entry rest ≡ silent a rest =
-    runs a rest ∙ ap (λ (o : Option abstract.Kernel). running_in present_build c.keys c.size a entry
+    let run : after_entry (build_over c.meaning) c.keys c.size a entry rest ≡ silent a rest =
+    runs a rest ∙ ap (λ (o : Option abstract.Kernel). running_in (build_over c.meaning) c.keys c.size a entry
     o rest) (stands.unbooted booted) in
-    subst (λ w. LineMatches s d.known out w rest) (sym run) (record {
+    subst (λ w. LineMatches c.meaning s d.known out w rest) (sym run) (record {
       stands = stands;
       left = refl;
       bytes = said.bytes_are;
@@ -304,18 +305,18 @@ unbooted_runs c entry s out d runs parsed booted said told =
     }))
 
 -- the rows of the kernel's whole state
-pub raw_runs : SameShown all_calls → (c : Place) (s : Seen) (out : Left) (d : DiskSeen) → s.booted ≡ true →
+pub raw_runs : (c : Place) → SameShown c.meaning → (s : Seen) (out : Left) (d : DiskSeen) → s.booted ≡ true →
     LeavesText out (row_lines (s.events + 1) (placed_rows s.placed)) →
     RunsEntry c Raw s (record s { events = s.events + 1 }) d d out
-raw_runs shown c s out d booted said =
+raw_runs c shown s out d booted said =
     alone c Raw s (record s { events = s.events + 1 }) out d refl said.no_notes (λ a rest stands.
     let has = stands.booted booted in
     let n = suc a.events in
     let number = next_number s d.known a stands in
-    let run : after_entry present_build c.keys c.size a Raw rest ≡ says (record a { events = n })
-    (row_lines n (raw_rows all_calls has.kernel)) rest =
-    ap (λ (o : Option abstract.Kernel). running_in present_build c.keys c.size a Raw o rest) has.is in
-    subst (λ w. LineMatches (record s { events = s.events + 1 }) d.known out w rest) (sym run) (record {
+    let run : after_entry (build_over c.meaning) c.keys c.size a Raw rest ≡ says (record a { events = n })
+    (row_lines n (raw_rows c.meaning has.kernel)) rest =
+    ap (λ (o : Option abstract.Kernel). running_in (build_over c.meaning) c.keys c.size a Raw o rest) has.is in
+    subst (λ w. LineMatches c.meaning (record s { events = s.events + 1 }) d.known out w rest) (sym run) (record {
       stands = record {
         setup = stands.setup;
         lines = stands.lines;
@@ -335,8 +336,8 @@ raw_runs shown c s out d booted said =
 -- ---- lines
 
 -- a kernel of the abstract session is there where the code's is booted
-kernel_is_some : (s : Seen) (known : Option (List (List ℕ))) (a : Session) (b : Bool) →
-    StandsFor s known a → s.booted ≡ b → is_some a.kernel ≡ b
+kernel_is_some : {m : Meaning} (s : Seen) (known : Option (List (List ℕ))) (a : Session) (b : Bool) →
+    StandsFor m s known a → s.booted ≡ b → is_some a.kernel ≡ b
 kernel_is_some s known a false stands h = ap is_some (stands.unbooted h)
 kernel_is_some s known a true stands h = ap is_some (stands.booted h).is
 
@@ -353,10 +354,10 @@ line_after_refusal c s text out d refused said =
           let is : line_run c a text rest ≡ silent a rest =
           ap (λ (b : Bool). elim b as (λ _. Written) [
             | true ↦ silent a rest
-            | false ↦ after_parse present_build c.keys c.size (record a { lines = suc a.lines })
+            | false ↦ after_parse (build_over c.meaning) c.keys c.size (record a { lines = suc a.lines })
                 (parsed_line (is_some a.kernel) text) rest
           ]) (stands.refused ∙ refused) in
-          subst (λ w. LineMatches s d.known out w rest) (sym is) (record {
+          subst (λ w. LineMatches c.meaning s d.known out w rest) (sym is) (record {
             stands = stands;
             left = refl;
             bytes = said.bytes_are;
@@ -367,21 +368,21 @@ line_after_refusal c s text out d refused said =
 -- a line of a session that goes on is what its words say
 line_parsed : (c : Place) (s : Seen) (known : Option (List (List ℕ))) (a : Session) (text : List ℕ)
     (said : Result Entry ScriptFault) (io : List Bool) →
-    StandsFor s known a → s.refused ≡ false → parsed_line s.booted text ≡ said →
-    line_run c a text io ≡ after_parse present_build c.keys c.size (record a { lines = suc a.lines }) said io
+    StandsFor c.meaning s known a → s.refused ≡ false → parsed_line s.booted text ≡ said →
+    line_run c a text io ≡ after_parse (build_over c.meaning) c.keys c.size (record a { lines = suc a.lines }) said io
 line_parsed c s known a text said io stands going is =
     let u = record a { lines = suc a.lines } in
     ap (λ (refused : Bool). elim refused as (λ _. Written) [
       | true ↦ silent a io
-      | false ↦ after_parse present_build c.keys c.size u (parsed_line (is_some a.kernel) text) io
+      | false ↦ after_parse (build_over c.meaning) c.keys c.size u (parsed_line (is_some a.kernel) text) io
     ]) (stands.refused ∙ going)
-    ∙ ap (λ (b : Bool). after_parse present_build c.keys c.size u (parsed_line b text) io)
+    ∙ ap (λ (b : Bool). after_parse (build_over c.meaning) c.keys c.size u (parsed_line b text) io)
     (kernel_is_some s known a s.booted stands refl)
-    ∙ ap (λ (r : Result Entry ScriptFault). after_parse present_build c.keys c.size u r io) is
+    ∙ ap (λ (r : Result Entry ScriptFault). after_parse (build_over c.meaning) c.keys c.size u r io) is
 
 -- a session whose next line was counted
-counted : (s : Seen) (known : Option (List (List ℕ))) (a : Session) → StandsFor s known a →
-    StandsFor (record s { lines = s.lines + 1 }) known (record a { lines = suc a.lines })
+counted : {m : Meaning} (s : Seen) (known : Option (List (List ℕ))) (a : Session) → StandsFor m s known a →
+    StandsFor m (record s { lines = s.lines + 1 }) known (record a { lines = suc a.lines })
 counted s known a stands =
     record {
       setup = stands.setup;
@@ -416,14 +417,14 @@ line_entered c s t text out entry d e going is runs =
           λ other still says. subst (λ (x : Entry). TellsFailures s.setup.frames c.size x out
           runs.io) (one_entry entry other (sym is ∙ says)) runs.told;
       comes = λ a rest stands.
-          subst (λ w. LineMatches t e.known out w rest)
+          subst (λ w. LineMatches c.meaning t e.known out w rest)
           (sym (line_parsed c s d.known a text (Ok entry) (runs.io ++ rest) stands going is))
           (runs.comes (record a { lines = suc a.lines }) rest (counted s d.known a stands));
     }
 
 -- a session that refused its line
-refused_now : (s : Seen) (known : Option (List (List ℕ))) (a : Session) → StandsFor s known a →
-    StandsFor (record s { refused = true }) known (record a { refused = true })
+refused_now : {m : Meaning} (s : Seen) (known : Option (List (List ℕ))) (a : Session) → StandsFor m s known a →
+    StandsFor m (record s { refused = true }) known (record a { refused = true })
 refused_now s known a stands =
     record {
       setup = stands.setup;
@@ -452,10 +453,10 @@ line_refused c s t text out fault d going is state said =
       told = λ entry still says. absurd (no_entry fault entry (sym is ∙ says));
       comes = λ a rest stands.
           let u = counted s d.known a stands in
-          subst (λ w. LineMatches t d.known out w rest)
+          subst (λ w. LineMatches c.meaning t d.known out w rest)
           (sym (line_parsed c s d.known a text (Err fault) rest stands going is)) (record {
             stands =
-                subst (λ (x : Seen). StandsFor x d.known
+                subst (λ (x : Seen). StandsFor c.meaning x d.known
                 (record a { lines = suc a.lines; refused = true })) (sym state)
                 (refused_now (record s { lines = s.lines + 1 }) d.known (record a { lines = suc a.lines }) u);
             left = refl;

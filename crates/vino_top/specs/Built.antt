@@ -1,6 +1,12 @@
--- What of the product is built: all that is defined.
+-- What a script runs on: the meaning of the system calls, and which of the list grafts may call.
+use Rattle.kernel_data.specs.declared.TheConstants.{LAST_CALLABLE}
+use Rattle.script_model.specs.Meaning.{Meaning}
 use Rattle.script_model.specs.Session.{Build, whole}
 
--- what is built
+-- what is built over a table of calls: these, and all of the callable list
+abbrev pub build_over : Meaning → Build
+build_over m = record { meaning = m; callable = LAST_CALLABLE }
+
+-- what is built of the product: all that is defined
 abbrev pub present_build : Build
 present_build = whole

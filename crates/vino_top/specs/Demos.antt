@@ -7,14 +7,14 @@ use Rattle.script_model.specs.Session.{Session, Written, after_lines}
 use Rattle.script_model.specs.Demo.{demo_keys, demo_lines, summary}
 use Rattle.demo_text.specs.declared.tally.Tally.{Tally}
 use Rattle.demo_text.specs.Tallies.{IsTally}
-use Rattle.vino_top.specs.Built.{present_build}
+use Rattle.vino_top.specs.Built.{build_over, present_build}
 use Rattle.vino_top.specs.Standing.{Seen, StandsFor}
 use Rattle.vino_top.specs.Run.{Place, place, lines_run, UsesAll, MadeAll, ForEachSession, IsFirst}
 use Rattle.vino_top.specs.Run.{WantsMemory, WantsAt, Left, LineMatches}
 
 -- what all these lines make of a session, and what they write
 abbrev pub all_run : Place → Session → List (List ℕ) → List (List Bool) → Written
-all_run c a texts ios = after_lines present_build c.keys c.size a texts ios
+all_run c a texts ios = after_lines (build_over c.meaning) c.keys c.size a texts ios
 
 -- The session went on by these lines, which took the disk from the one to the other and left `out`
 -- behind, in all.
@@ -23,9 +23,9 @@ pub record RanLines (c : Place) (texts : List (List ℕ)) (s t : Seen) (d e : Di
   pub ios : List (List Bool)
   pub one_each : length ios ≡ length texts
   pub calls : MadeAll d e ios
-  pub used : ForEachSession c (StandsFor s d.known) (λ c a. UsesAll c a texts ios)
-  pub comes : ForEachSession c (StandsFor s d.known)
-      (λ c a. LineMatches t e.known out (all_run c a texts ios) [])
+  pub used : ForEachSession c (StandsFor c.meaning s d.known) (λ c a. UsesAll c a texts ios)
+  pub comes : ForEachSession c (StandsFor c.meaning s d.known)
+      (λ c a. LineMatches c.meaning t e.known out (all_run c a texts ios) [])
 
 -- both of these, in order
 abbrev pub joined : Left → Left → Left
@@ -115,6 +115,6 @@ pub record DemoStops (c : Place) (all : List (List ℕ)) (s : Seen) (d e : DiskS
   pub later : List (List ℕ)
   pub order : all ≡ done ++ next ∷ later
   pub t : Seen
-  pub wants : WantsAt t next
+  pub wants : WantsAt c.meaning t next
   pub out : Left
   pub ran : RanLines c done s t d e out

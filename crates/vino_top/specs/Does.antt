@@ -9,7 +9,7 @@ use Rattle.script_model.specs.Filters as filter
 use Rattle.commands.specs.Filtered.{Filtered}
 use Rattle.commands.specs.declared.command_line.Asked.{Asked}
 use Rattle.commands.specs.declared.command_line.Asked.TheVariants.{Run, Box, Check, Reseal, Asm}
-use Rattle.commands.specs.declared.command_line.Asked.TheVariants.{Dis, Lang, Demo, Nothing}
+use Rattle.commands.specs.declared.command_line.Asked.TheVariants.{Dis, Lang, Audit, Demo, Nothing}
 use Rattle.vino_top.specs.Run.{Place, place, Devices, Ran, Broke, Lacked}
 use Rattle.vino_top.specs.Demos.{DemoRan, DemoLacked}
 
@@ -85,5 +85,6 @@ Does (Reseal keys) x y status = FilterDoes (filter.Reseal keys) x y status
 Does Asm x y status = FilterDoes filter.Asm x y status
 Does Dis x y status = FilterDoes filter.Dis x y status
 Does Lang x y status = FilterDoes filter.Lang x y status
+Does (Audit keys) x y status = FilterDoes (filter.Audit keys) x y status
 Does (Demo n) x y status = DemoDoes n x y status
 Does Nothing x y status = UsageDoes x y status

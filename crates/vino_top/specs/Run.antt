@@ -15,6 +15,7 @@ use Rattle.kernel_data.specs.World.{Blocks}
 use Rattle.script_model.specs.Session.{Session, Written, first_session, after_line, after_entry}
 use Rattle.script_model.specs.Session.{session_after, pieces_of, first_io, later_io}
 use Rattle.script_model.specs.Kernel.{Kernel}
+use Rattle.script_model.specs.Meaning.{Meaning}
 use Rattle.script_model.specs.Script.{Entry, Boot, Happens, Loads, parsed_line}
 use Rattle.script_model.specs.Outcome.{SCRIPT_BYTES, Ending, End, Outcome, outcome, written, lines_after, rest_after}
 use Rattle.script_model.specs.Text.{boot_text, line, note_lines}
@@ -23,7 +24,7 @@ use Rattle.kernel_core.specs.Standing.{boot_note_of}
 use Rattle.kernel_core.specs.declared.kernel.BootNote.{BootNote}
 use Rattle.kernel_core.specs.declared.kernel.BootNote.TheVariants.{Up}
 use Rattle.kernel_core.specs.declared.kernel.BootNote.TheVariants as boot_is
-use Rattle.vino_top.specs.Built.{present_build}
+use Rattle.vino_top.specs.Built.{build_over, present_build}
 use Rattle.vino_top.specs.Standing.{Seen, seen_of, StandsFor}
 use Rattle.vino_top.specs.Parsed.{Parsed, parsed_entry, EndsWith, GoesByText, text_parsed, text_status, text_refusal}
 use Rattle.vino_top.specs.declared.session.Buffers.{Buffers}
@@ -33,27 +34,33 @@ use Rattle.vino_top.specs.declared.run.Stop.TheVariants.{SinkFailed, NoMemory}
 
 -- ---- the abstract run
 
--- where a script runs: the keys of its images, and how many blocks its disk has
+-- where a script runs: the meaning of its system calls, the keys of its images, and how many blocks
+-- its disk has
 pub record Place : Type 0 where
+  pub meaning : Meaning
   pub keys : Keys
   pub size : ℕ
 
--- with these keys, over a disk of this size
+-- over this table of calls, with these keys, over a disk of this size
+abbrev pub place_over : Meaning → Keys → (size : ℕ) → Place
+place_over m keys size = record { meaning = m; keys = keys; size = size }
+
+-- in the program, with these keys, over a disk of this size
 abbrev pub place : Keys → (size : ℕ) → Place
-place keys size = record { keys = keys; size = size }
+place keys size = place_over present_build.meaning keys size
 
 -- what a line makes of a session, where the list says of each of its calls of the disk whether it
 -- fails
 abbrev pub line_run : Place → Session → List ℕ → List Bool → Written
-line_run c a text io = after_line present_build c.keys c.size a text io
+line_run c a text io = after_line (build_over c.meaning) c.keys c.size a text io
 
 -- the session after lines, with one such list for each line
 abbrev pub lines_run : Place → Session → List (List ℕ) → List (List Bool) → Session
-lines_run c a texts ios = session_after present_build c.keys c.size a texts ios
+lines_run c a texts ios = session_after (build_over c.meaning) c.keys c.size a texts ios
 
 -- what each of these lines writes
 abbrev pub pieces_run : Place → Session → List (List ℕ) → List (List Bool) → List (List ℕ)
-pieces_run c a texts ios = pieces_of present_build c.keys c.size a texts ios
+pieces_run c a texts ios = pieces_of (build_over c.meaning) c.keys c.size a texts ios
 
 -- The line makes these calls of the disk, no fewer and no more: whatever the calls behind them
 -- would do, it leaves those, writes the same bytes and comes to the same blocks.
@@ -78,7 +85,7 @@ first_on size blocks = first_session (record { size = size; block = blocks })
 -- the outcome of a run that took these bytes and ended so
 abbrev pub outcome_at : Place → Blocks → (taken : List ℕ) → Ending → List (List Bool) → Outcome
 outcome_at c blocks taken e ios =
-    outcome present_build c.keys taken e (record { size = c.size; block = blocks }) ios
+    outcome (build_over c.meaning) c.keys taken e (record { size = c.size; block = blocks }) ios
 
 -- ---- what is seen outside
 
@@ -120,9 +127,9 @@ pub record LeavesText (out : Left) (bytes : List ℕ) : Type 0 where
 
 -- what came of a line or an entry: the session and the disk stand for what is written of them, of
 -- the calls that were told these are left, and the bytes and notes are those that are left behind
-pub record LineMatches (t : Seen) (known : Option (List (List ℕ))) (out : Left) (w : Written)
-    (rest : List Bool) : Type 0 where
-  pub stands : StandsFor t known w.session
+pub record LineMatches (m : Meaning) (t : Seen) (known : Option (List (List ℕ))) (out : Left)
+    (w : Written) (rest : List Bool) : Type 0 where
+  pub stands : StandsFor m t known w.session
   pub left : w.io ≡ rest
   pub bytes : out.bytes ≡ w.bytes
   pub notes : out.notes ≡ w.notes
@@ -154,8 +161,8 @@ pub record RunsLine (c : Place) (text : List ℕ) (s t : Seen) (d e : DiskSeen)
   -- which of its calls of the disk failed
   pub io : List Bool
   pub made : Made d e io
-  pub comes : (a : Session) (rest : List Bool) → StandsFor s d.known a →
-      LineMatches t e.known out (line_run c a text (io ++ rest)) rest
+  pub comes : (a : Session) (rest : List Bool) → StandsFor c.meaning s d.known a →
+      LineMatches c.meaning t e.known out (line_run c a text (io ++ rest)) rest
   -- over any disk, also one that tells nothing
   pub by_text : GoesByText (parsed_of s) (parsed_of t) (text ∷ []) out.bytes
   pub told : (entry : Entry) → s.refused ≡ false → parsed_line s.booted text ≡ Ok entry →
@@ -168,8 +175,9 @@ pub record RunsEntry (c : Place) (entry : Entry) (s t : Seen) (d e : DiskSeen)
   -- which of its calls of the disk failed
   pub io : List Bool
   pub made : Made d e io
-  pub comes : (a : Session) (rest : List Bool) → StandsFor s d.known a →
-      LineMatches t e.known out (after_entry present_build c.keys c.size a entry (io ++ rest)) rest
+  pub comes : (a : Session) (rest : List Bool) → StandsFor c.meaning s d.known a →
+      LineMatches c.meaning t e.known out
+      (after_entry (build_over c.meaning) c.keys c.size a entry (io ++ rest)) rest
   -- over any disk, also one that tells nothing
   pub parsed : parsed_of t ≡ parsed_entry (parsed_of s) entry
   pub told : TellsFailures s.setup.frames c.size entry out io
@@ -195,9 +203,9 @@ pub record WantsMemory (a : Session) (text : List ℕ) : Type 0 where
   pub in_range : slot < 32
   pub free : kernel.images slot ≡ None
 
--- so it is in whichever session this one stands for
-abbrev pub WantsAt : Seen → List ℕ → Type 0
-WantsAt s text = (known : Option (List (List ℕ))) (a : Session) → StandsFor s known a →
+-- so it is in whichever session over this table of calls this one stands for
+abbrev pub WantsAt : Meaning → Seen → List ℕ → Type 0
+WantsAt m s text = (known : Option (List (List ℕ))) (a : Session) → StandsFor m s known a →
     WantsMemory a text
 
 -- from whichever of these sessions
@@ -213,11 +221,11 @@ pub record Feeds (c : Place) (s t : Seen) (line line_new bytes : List ℕ)
   pub calls : MadeAll d e ios
   pub line_is : line_new ≡ rest_after line bytes
   pub lines : t.lines ≤ s.lines + length bytes
-  pub stands : ForEachSession c (StandsFor s d.known)
-      (λ c a. StandsFor t e.known (lines_run c a (lines_after line bytes) ios))
-  pub used : ForEachSession c (StandsFor s d.known)
+  pub stands : ForEachSession c (StandsFor c.meaning s d.known)
+      (λ c a. StandsFor c.meaning t e.known (lines_run c a (lines_after line bytes) ios))
+  pub used : ForEachSession c (StandsFor c.meaning s d.known)
       (λ c a. UsesAll c a (lines_after line bytes) ios)
-  pub appended : ForEachSession c (StandsFor s d.known)
+  pub appended : ForEachSession c (StandsFor c.meaning s d.known)
       (λ c a. Appends got got_new (concat (pieces_run c a (lines_after line bytes) ios)))
   -- over any disk, also one that tells nothing: the sink took these bytes
   pub out : List ℕ
@@ -384,7 +392,8 @@ pub record RunMoment : Type 0 where
   pub disk : DiskSeen
 
 -- the moment of this run, with this sink and this disk
-abbrev pub run_moment : {B : Type 0} {P : _} → ScriptRun B P → SinkSeen → DiskSeen → RunMoment
+abbrev pub run_moment : {C B M : Type 0} {P : _} → ScriptRun C B M P → SinkSeen → DiskSeen →
+    RunMoment
 run_moment r k d = record { session = seen_of r.session; line = r.line; sink = k; disk = d }
 
 -- These bytes were fed, or the run stopped among their lines. The sink is blamed where it failed.
@@ -392,8 +401,8 @@ pub record FeedsOrStops {T : Type 0} (c : Place) (bytes : List ℕ) (x y : RunMo
     (answer : Result T Stop) : Type 0 where
   pub contents : MatchResult answer
       (λ _. Feeds c x.session y.session x.line y.line bytes x.sink.got y.sink.got x.disk y.disk)
-      (StopsAt c (StandsFor x.session x.disk.known) (lines_after x.line bytes) x.sink.got y.sink.got
-      x.disk y.disk)
+      (StopsAt c (StandsFor c.meaning x.session x.disk.known) (lines_after x.line bytes) x.sink.got
+      y.sink.got x.disk y.disk)
   pub sink : IsUsed x.sink.device y.sink.device (is_sink_failed answer)
 
 -- The line that ended was this one. It was run, the sink took what it writes, and the next line is
@@ -403,7 +412,8 @@ pub record TakesOrStops {T : Type 0} (c : Place) (text : List ℕ) (x y : RunMom
   pub line : OnOk answer (y.line ≡ [])
   pub contents : MatchResult answer
       (λ _. TakesLine c text x.session y.session x.sink.got y.sink.got x.disk y.disk)
-      (StopsAt c (StandsFor x.session x.disk.known) (text ∷ []) x.sink.got y.sink.got x.disk y.disk)
+      (StopsAt c (StandsFor c.meaning x.session x.disk.known) (text ∷ []) x.sink.got y.sink.got
+      x.disk y.disk)
   pub sink : IsUsed x.sink.device y.sink.device (is_sink_failed answer)
 
 -- The sink took the last bytes of a run, which ends with this status, or a part of them, and it

@@ -3,8 +3,8 @@ use Rattle.std.specs.Prelude.{◌≡◌, ℕ, suc, Bool, true, false, cond, List
 use Rattle.std.specs.Prelude.{None, slice_index_or, flat_map}
 use Rattle.call_pieces.specs.Calls.{Knows}
 use Rattle.kernel_data.specs.World.{processes}
-use Rattle.script_model.specs.AllCalls.{all_calls}
 use Rattle.script_model.specs.Kernel as abstract
+use Rattle.script_model.specs.Meaning.{Meaning}
 use Rattle.script_model.specs.Script.{Unfinished}
 use Rattle.script_model.specs.Session as script
 use Rattle.script_model.specs.Sound.{IsAtRest}
@@ -29,7 +29,7 @@ pub record Seen : Type 0 where
   pub refused : Bool
 
 -- the same of a session of the code, by what is seen of a policy
-abbrev pub seen_of : {B : Type 0} {P : _} → Session B P → Seen
+abbrev pub seen_of : {C B M : Type 0} {P : _} → Session C B M P → Seen
 seen_of s =
     record {
       setup = s.setup;
@@ -50,22 +50,24 @@ setup_of u = record {
 
 -- ---- what that stands for
 
--- An abstract kernel that rests, for which a kernel in place stands.
-pub record HasKernel (x : Placed) (o : Option abstract.Kernel) : Type 0 where
+-- An abstract kernel over this table of calls that rests, for which a kernel in place stands.
+pub record HasKernel (m : Meaning) (x : Placed) (o : Option abstract.Kernel) : Type 0 where
   pub kernel : abstract.Kernel
   pub is : o ≡ Some kernel
-  pub stands : kernels.StandsFor all_calls x kernel
-  pub rests : IsAtRest all_calls kernel
+  pub stands : kernels.StandsFor m x kernel
+  pub rests : IsAtRest m kernel
 
--- What is seen of a session stands for an abstract one, whose blocks the disk tells: that has no
--- kernel before `boot`, and after it one that rests, for which the kernel in place stands.
-pub record StandsFor (s : Seen) (known : Option (List (List ℕ))) (a : script.Session) : Type 0 where
+-- What is seen of a session over this table of calls stands for an abstract one, whose blocks the
+-- disk tells: that has no kernel before `boot`, and after it one that rests, for which the kernel
+-- in place stands.
+pub record StandsFor (m : Meaning) (s : Seen) (known : Option (List (List ℕ)))
+    (a : script.Session) : Type 0 where
   pub setup : a.setup ≡ setup_of s.setup
   pub lines : a.lines ≡ s.lines
   pub events : a.events ≡ s.events
   pub refused : a.refused ≡ s.refused
   pub unbooted : s.booted ≡ false → a.kernel ≡ None
-  pub booted : s.booted ≡ true → HasKernel s.placed a.kernel
+  pub booted : s.booted ≡ true → HasKernel m s.placed a.kernel
   pub blocks : Knows known a.blocks
 
 -- What is seen of a session before its first line.

@@ -2,6 +2,7 @@
 
 ghost use Rattle.std.specs.Prelude.{◌≡◌, ◌==◌, ◌⊎◌, ◌≤◌, ◌<◌, ◌+◌, ◌-◌, ◌^◌, ◌++◌, ℕ, [], length};
 ghost use Rattle.std.specs.Prelude.{map, OnOk, OnErr, IfOk};
+ghost use Rattle.script_model.specs.AllCalls.{all_calls};
 ghost use Rattle.script_model.specs.Demo.{demo_lines, summary_of};
 ghost use Rattle.demo_text.specs.Tallies.{IsTally};
 ghost use Rattle.vino_top.specs.Bounds.{IsStock, IsSessionWithin};
@@ -10,7 +11,7 @@ ghost use Rattle.vino_top.specs.Run.{WantsAt, Left};
 ghost use Rattle.vino_top.specs.Does.{DemoAnswers};
 ghost use Rattle.vino_top.specs.Demos.{demo_place, HasRoom, DemoTakes, DemoReached, DemoStops};
 
-use crate::session::{Buffers, Session};
+use crate::{Buffers, Session};
 use call_pieces::Policy;
 use demo_text::{DemoLines, Tally};
 use graft_loader::Keys;
@@ -63,7 +64,7 @@ fn run_one<B: Policy, D: Disk>(
     ensures ok { OnOk result (DemoTakes (demo_place (D.seen disk.old).size) text.now
         (seen_of run.old.session) (seen_of run.new.session) (D.seen disk.old) (D.seen disk.new)
         run.old.tally run.new.tally) }
-    ensures err { OnErr result (WantsAt (seen_of run.old.session) text.now) }
+    ensures err { OnErr result (WantsAt all_calls (seen_of run.old.session) text.now) }
     ensures same_disk { OnErr result (D.seen disk.new ≡ D.seen disk.old) }
 {
     run.session

@@ -11,10 +11,10 @@ ghost use Rattle.script_model.specs.Text.{line, usage_text};
 ghost use Rattle.script_model.specs.Opening.{opening_policy};
 ghost use Rattle.call_pieces.specs.Shelf.{IsShelf, pol_of, first_choice};
 ghost use Rattle.vino_top.specs.Standing.{seen_of, IsBegun};
-ghost use Rattle.vino_top.specs.Bounds.{IsStock, IsSessionWithin};
+ghost use Rattle.vino_top.specs.Bounds.{IsStock, IsSessionOver};
 ghost use Rattle.commands.specs.Words.{asked_by};
 ghost use Rattle.vino_top.specs.TextLaw.{TextDecides};
-ghost use Rattle.vino_top.specs.Run.{place, devices};
+ghost use Rattle.vino_top.specs.Run.{place_over, devices};
 ghost use Rattle.vino_top.specs.Does.{Does, RunAnswers};
 
 mod demo;
@@ -23,22 +23,25 @@ mod lines;
 mod loading;
 mod rows;
 mod run;
-mod session;
+pub mod session;
 
 pub use crate::lines::Lines;
 use crate::run::Loading;
-pub use crate::session::{Buffers, Session};
-use call_pieces::{Beside, Plain, Policy};
+pub use crate::session::Buffers;
+use call_pieces::{Beside, Calls, Plain, Policy};
 use commands::{Asked, read_words};
 pub use demo_text::demo_script;
 use event_points::EventPoints;
-use graft_loader::Keys;
+pub use graft_loader::Keys;
 use std::alloc::Global;
 use stream_points::StreamPoints;
 use vino_base::{Disk, Sink, Source, write_all};
 
 /// All calls of the program: those of stream points and of event points, beside all others.
 pub type AllCalls = Beside<StreamPoints, Beside<EventPoints, Plain>>;
+
+/// How far a script of the program has come.
+pub type Session<B> = session::Session<AllCalls, B>;
 
 /// How many bytes are read at once, at most.
 const READ_BYTES: usize = 65_536;
@@ -47,13 +50,14 @@ const READ_BYTES: usize = 65_536;
 /// sealed under these keys. `box KEYS` boxes and seals the raw image that it gives, with the flag
 /// keep where `keep` stands behind; `check KEYS` says whether a sealed image can be used, and
 /// `reseal KEYS` seals one anew under the last key. `asm`, `dis` and `lang` assemble, disassemble
-/// and compile what it gives. `demo N` runs the script that `demo_script` gives for N and tells of
+/// and compile what it gives. `audit KEYS` says whether the lines behind the first line `%%` are what
+/// `run KEYS` writes for the script before it. `demo N` runs the script that `demo_script` gives for N and tells of
 /// it in one line. For other words the usage line is written.
 ///
 /// The words are those after the program's own name. The answer is the exit status: 0 for an input
 /// that was done to its end, 1 for words that aren't in the grammar, 2 for a refused line, 3 for a
 /// source and 4 for a sink that failed, 5 for want of memory, 6 for an image that is refused, 7 for
-/// an input of more than 16,777,216 bytes.
+/// an input of more than 16,777,216 bytes, 8 for a claim that isn't what the script writes.
 pub fn vino<S: Source, K: Sink, D: Disk>(
     alloc: Global,
     words: &[String],
@@ -72,20 +76,23 @@ pub fn vino<S: Source, K: Sink, D: Disk>(
         (devices (S.seen src.new) (K.seen out.new) (D.seen disk.new)) result }
     // No other status comes.
     ensures statuses { (result ≡ 0) ⊎ (result ≡ 1) ⊎ (result ≡ 2) ⊎ (result ≡ 3) ⊎ (result ≡ 4)
-        ⊎ (result ≡ 5) ⊎ (result ≡ 6) ⊎ (result ≡ 7) }
+        ⊎ (result ≡ 5) ⊎ (result ≡ 6) ⊎ (result ≡ 7) ⊎ (result ≡ 8) }
     // A source or a sink is blamed only where its count of faults rose, and none is called again
     // behind a call that failed.
     ensures source { IsUsed (S.seen src.old).device (S.seen src.new).device (result == 3) }
     ensures sink { IsUsed (K.seen out.old).device (K.seen out.new).device (result == 4) }
 {
     match read_words(words) {
-        Asked::Run(keys) => run_script(alloc, &keys, src, out, disk, shelf),
+        Asked::Run(keys) => {
+            run_script::<AllCalls, Box<dyn Policy>, S, K, D>(alloc, &keys, src, out, disk, shelf)
+        }
         Asked::Box(keys, keep) => commands::box_image(alloc, &keys, keep, src, out),
         Asked::Check(keys) => commands::check_image(alloc, &keys, src, out),
         Asked::Reseal(keys) => commands::reseal_image(alloc, &keys, src, out),
         Asked::Asm => commands::asm(alloc, src, out),
         Asked::Dis => commands::dis(alloc, src, out),
         Asked::Lang => commands::lang(alloc, src, out),
+        Asked::Audit(keys) => commands::audit(alloc, &keys, src, out),
         Asked::Demo(n) => demo::demo(alloc, n, out, disk, shelf),
         Asked::Nothing => write_usage(out),
     }
@@ -98,8 +105,9 @@ pub fn text_decides()
     ensures { TextDecides }
 {}
 
-/// Runs the script that the source gives, with these keys for its images.
-fn run_script<B: Policy, S: Source, K: Sink, D: Disk>(
+/// Runs the script that the source gives, in a kernel over a table of calls, with these keys for
+/// its images. The answer is the exit status. The program does so for `run KEYS`, over `AllCalls`.
+pub fn run_script<C: Calls, B: Policy, S: Source, K: Sink, D: Disk>(
     alloc: Global,
     keys: &Keys,
     src: &mut S,
@@ -108,16 +116,16 @@ fn run_script<B: Policy, S: Source, K: Sink, D: Disk>(
     shelf: Vec<B>,
 ) -> u8
     requires { IsStock (map B.seen shelf.items) }
-    ensures { RunAnswers (place keys.now (D.seen disk.old).size)
+    ensures { RunAnswers (place_over C.Meaning.meaning keys.now (D.seen disk.old).size)
         (devices (S.seen src.old) (K.seen out.old) (D.seen disk.old))
         (devices (S.seen src.new) (K.seen out.new) (D.seen disk.new)) result }
 {
-    let Ok(session) = Session::new(alloc, shelf) else {
+    let Ok(session) = session::Session::new(alloc, shelf) else {
         return 5;
     };
     match run::ScriptRun::new(alloc, session) {
         Err(_) => 5,
-        Ok(reader) => start(Loading { alloc, keys }, reader, src, out, disk),
+        Ok(reader) => start::<C, B, S, K, D>(Loading { alloc, keys }, reader, src, out, disk),
     }
 }
 
@@ -135,17 +143,18 @@ fn write_usage<K: Sink>(out: &mut K) -> u8
 }
 
 /// Runs a script from its beginning.
-fn start<B: Policy, S: Source, K: Sink, D: Disk>(
+fn start<C: Calls, B: Policy, S: Source, K: Sink, D: Disk>(
     loading: Loading<'_>,
-    mut reader: run::ScriptRun<B>,
+    mut reader: run::ScriptRun<C, B>,
     src: &mut S,
     out: &mut K,
     disk: &mut D,
 ) -> u8
     requires begun { IsBegun (seen_of reader.session) }
-    requires within { (size : ℕ) → IsSessionWithin size reader.session }
+    requires within { (size : ℕ) → IsSessionOver C.Meaning.meaning size reader.session }
     requires line { reader.line ≡ [] }
-    ensures { RunAnswers (place loading.entry.keys.now (D.seen disk.old).size)
+    ensures { RunAnswers
+        (place_over C.Meaning.meaning loading.entry.keys.now (D.seen disk.old).size)
         (devices (S.seen src.old) (K.seen out.old) (D.seen disk.old))
         (devices (S.seen src.new) (K.seen out.new) (D.seen disk.new)) result }
 {

@@ -9,9 +9,8 @@ ghost use Rattle.running_kernel.specs.Views.{placed_of, IsRunning};
 ghost use Rattle.vino_top.specs.Held.{first_or_all};
 ghost use Rattle.vino_top.specs.Standing.{placed_left_line, placed_left_lines};
 
-use crate::AllCalls;
 use crate::rows::print_found;
-use call_pieces::Policy;
+use call_pieces::{Calls, Policy};
 use kernel_core::{Kernel, Notes, RowPlace};
 use kernel_data::{BareNote, NoMemory, PROCESSES};
 use line_text::{Text, append_note, print_left, print_note};
@@ -186,7 +185,7 @@ impl Lines {
     }
 
     /// The line of process p's call, if it has one in flight.
-    fn add_left_of<B: Policy>(&mut self, kernel: &Kernel<AllCalls, B>, p: u8, text: &mut Text)
+    fn add_left_of<C: Calls, B: Policy>(&mut self, kernel: &Kernel<C, B>, p: u8, text: &mut Text)
         requires room { length self.old + 2048 ≤ 3028992 }
         ensures value { self.new ≡ self.old
             ++ placed_left_line p ((placed_of kernel.now.running).call p) }
@@ -199,7 +198,7 @@ impl Lines {
     }
 
     /// The lines of the calls that a kernel has left in flight, one for each.
-    pub fn add_left<B: Policy>(&mut self, kernel: &Kernel<AllCalls, B>, text: &mut Text)
+    pub fn add_left<C: Calls, B: Policy>(&mut self, kernel: &Kernel<C, B>, text: &mut Text)
         requires { self.old ≡ [] }
         ensures { self.new ≡ placed_left_lines (placed_of kernel.now.running) }
     {
@@ -209,7 +208,7 @@ impl Lines {
     }
 
     /// The lines of the rows that show a kernel's whole state, for event n.
-    pub fn add_rows<B: Policy>(&mut self, kernel: &Kernel<AllCalls, B>, n: u32, text: &mut Text)
+    pub fn add_rows<C: Calls, B: Policy>(&mut self, kernel: &Kernel<C, B>, n: u32, text: &mut Text)
         requires empty { self.old ≡ [] }
         requires running { IsRunning kernel.now.running }
         ensures { self.new ≡ row_lines n (placed_rows (placed_of kernel.now.running)) }

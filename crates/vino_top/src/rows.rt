@@ -6,14 +6,13 @@ ghost use Rattle.script_model.specs.Text.{line, row_text};
 ghost use Rattle.kernel_core.specs.PlacedSections.{row_found, IsRow};
 ghost use Rattle.running_kernel.specs.Views.{placed_of, IsRunning};
 
-use crate::AllCalls;
-use call_pieces::Policy;
+use call_pieces::{Calls, Policy};
 use kernel_core::{FoundRow, Kernel, Section};
 use line_text::{LentRow, Text, print_lent, print_row};
 
 /// `text` becomes the line of the row that stands there, for event n.
-pub fn print_found<B: Policy>(
-    kernel: &Kernel<AllCalls, B>,
+pub fn print_found<C: Calls, B: Policy>(
+    kernel: &Kernel<C, B>,
     n: u32,
     found: &FoundRow,
     text: &mut Text,
@@ -45,7 +44,12 @@ pub fn print_found<B: Policy>(
 }
 
 /// `text` becomes the line of the row that stands there, for event n, by way of the whole row.
-fn print_whole<B: Policy>(kernel: &Kernel<AllCalls, B>, n: u32, found: &FoundRow, text: &mut Text)
+fn print_whole<C: Calls, B: Policy>(
+    kernel: &Kernel<C, B>,
+    n: u32,
+    found: &FoundRow,
+    text: &mut Text,
+)
     requires running { IsRunning kernel.now.running }
     requires found { IsRow (placed_of kernel.now.running) found.now }
     ensures { IfSome (row_found (placed_of kernel.now.running) found.now)

@@ -6,15 +6,16 @@ ghost use Rattle.std.specs.Prelude.{◌⊎◌, drop};
 ghost use Rattle.std.specs.Io.KnownBytes.{Appends, Consumes, IsAtEnd};
 ghost use Rattle.vino_base.specs.Streams.{AppendsPart, IsUsed};
 ghost use Rattle.script_model.specs.Script.{LINE_BYTES};
-ghost use Rattle.vino_top.specs.Bounds.{IsSessionWithin, CanTake};
+ghost use Rattle.vino_top.specs.Bounds.{IsSessionOver, CanTake};
 ghost use Rattle.vino_top.specs.declared.run.Stop.TheVariants.{SinkFailed};
-ghost use Rattle.vino_top.specs.Run.{Place, place, run_moment, TakesOrStops, FeedsOrStops, WritesLast};
-ghost use Rattle.vino_top.specs.Run.{devices, Ran, Broke, Lacked, stop_status, is_sink_failed};
+ghost use Rattle.vino_top.specs.Run.{Place, place_over, run_moment, TakesOrStops, FeedsOrStops};
+ghost use Rattle.vino_top.specs.Run.{WritesLast, devices, Ran, Broke, Lacked, stop_status};
+ghost use Rattle.vino_top.specs.Run.{is_sink_failed};
 ghost use Rattle.vino_top.specs.Standing.{seen_of, IsBegun, last_bytes, last_status};
 ghost use Rattle.vino_base.specs.Disks.{DiskSeen};
 
 use crate::session::{Buffers, Session};
-use call_pieces::Policy;
+use call_pieces::{Calls, Policy};
 use graft_loader::Keys;
 use kernel_data::NoMemory;
 use script_text::{Fed, LineBuf};
@@ -42,15 +43,15 @@ pub struct Loading<'a> {
 
 /// The run of a script: its session, the line that is being read, and what a line leaves behind.
 #[derive(Drop)]
-pub struct ScriptRun<B: Policy> {
-    pub session: Session<B>,
+pub struct ScriptRun<C: Calls, B: Policy> {
+    pub session: Session<C, B>,
     pub line: LineBuf,
     pub out: Buffers,
 }
 
-impl<B: Policy> ScriptRun<B> {
+impl<C: Calls, B: Policy> ScriptRun<C, B> {
     /// Before the first byte, over this session.
-    pub fn new(alloc: Global, session: Session<B>) -> Result<ScriptRun<B>, NoMemory>
+    pub fn new(alloc: Global, session: Session<C, B>) -> Result<ScriptRun<C, B>, NoMemory>
         ensures session { IfOk result (λ r. r.session ≡ session) }
         ensures line { IfOk result (λ r. r.line ≡ []) }
     {
@@ -73,7 +74,10 @@ pub fn zeros(alloc: Global, n: usize) -> Result<Vec<u8>, NoMemory>
 }
 
 /// What a line writes is written.
-fn write_lines<B: Policy, K: Sink>(reader: &ScriptRun<B>, out: &mut K) -> Result<(), Stop>
+fn write_lines<C: Calls, B: Policy, K: Sink>(
+    reader: &ScriptRun<C, B>,
+    out: &mut K,
+) -> Result<(), Stop>
     ensures sink { IsUsed (K.seen out.old).device (K.seen out.new).device (is_sink_failed result) }
     ensures contents { MatchResult result
         (λ _. Appends (K.seen out.old).got (K.seen out.new).got reader.now.out.lines)
@@ -87,19 +91,20 @@ fn write_lines<B: Policy, K: Sink>(reader: &ScriptRun<B>, out: &mut K) -> Result
 }
 
 /// A line that stands whole in what was read is run, and what it writes is written.
-fn run_whole<B: Policy, K: Sink, D: Disk>(
+fn run_whole<C: Calls, B: Policy, K: Sink, D: Disk>(
     alloc: Global,
     keys: &Keys,
-    reader: &mut ScriptRun<B>,
+    reader: &mut ScriptRun<C, B>,
     text: &[u8],
     out: &mut K,
     disk: &mut D,
 ) -> Result<(), Stop>
-    requires can { CanTake (D.seen disk.old).size 1 reader.old }
+    requires can { CanTake C.Meaning.meaning (D.seen disk.old).size 1 reader.old }
     requires fresh { reader.old.line ≡ [] }
     requires short { length text.now ≤ LINE_BYTES }
-    ensures within { IsSessionWithin (D.seen disk.new).size reader.new.session }
-    ensures taken { TakesOrStops (place keys.now (D.seen disk.old).size) text.now
+    ensures within { IsSessionOver C.Meaning.meaning (D.seen disk.new).size reader.new.session }
+    ensures taken { TakesOrStops
+        (place_over C.Meaning.meaning keys.now (D.seen disk.old).size) text.now
         (run_moment reader.old (K.seen out.old) (D.seen disk.old))
         (run_moment reader.new (K.seen out.new) (D.seen disk.new)) result }
 {
@@ -113,16 +118,17 @@ fn run_whole<B: Policy, K: Sink, D: Disk>(
 }
 
 /// The line has ended: it is run, and what it writes is written.
-fn end_line<B: Policy, K: Sink, D: Disk>(
+fn end_line<C: Calls, B: Policy, K: Sink, D: Disk>(
     alloc: Global,
     keys: &Keys,
-    reader: &mut ScriptRun<B>,
+    reader: &mut ScriptRun<C, B>,
     out: &mut K,
     disk: &mut D,
 ) -> Result<(), Stop>
-    requires { CanTake (D.seen disk.old).size 1 reader.old }
-    ensures within { IsSessionWithin (D.seen disk.new).size reader.new.session }
-    ensures taken { TakesOrStops (place keys.now (D.seen disk.old).size) reader.old.line
+    requires { CanTake C.Meaning.meaning (D.seen disk.old).size 1 reader.old }
+    ensures within { IsSessionOver C.Meaning.meaning (D.seen disk.new).size reader.new.session }
+    ensures taken { TakesOrStops
+        (place_over C.Meaning.meaning keys.now (D.seen disk.old).size) reader.old.line
         (run_moment reader.old (K.seen out.old) (D.seen disk.old))
         (run_moment reader.new (K.seen out.new) (D.seen disk.new)) result }
 {
@@ -137,15 +143,15 @@ fn end_line<B: Policy, K: Sink, D: Disk>(
 }
 
 /// The line is too long with this byte.
-fn end_long<B: Policy, K: Sink>(
-    reader: &mut ScriptRun<B>,
+fn end_long<C: Calls, B: Policy, K: Sink>(
+    reader: &mut ScriptRun<C, B>,
     byte: u8,
     out: &mut K,
 ) -> Result<(), Stop>
     requires lines { reader.old.session.lines < 2 ^ 32 - 2 }
     requires long { length reader.old.line ≡ LINE_BYTES }
-    ensures within { (size : ℕ) → IsSessionWithin size reader.old.session →
-        IsSessionWithin size reader.new.session }
+    ensures within { (size : ℕ) → IsSessionOver C.Meaning.meaning size reader.old.session →
+        IsSessionOver C.Meaning.meaning size reader.new.session }
     ensures taken { (c : Place) (d : DiskSeen) → TakesOrStops c (reader.old.line ++ byte ∷ [])
         (run_moment reader.old (K.seen out.old) d) (run_moment reader.new (K.seen out.new) d) result }
 {
@@ -155,17 +161,18 @@ fn end_long<B: Policy, K: Sink>(
 }
 
 /// One byte of the script.
-fn take_byte<B: Policy, K: Sink, D: Disk>(
+fn take_byte<C: Calls, B: Policy, K: Sink, D: Disk>(
     alloc: Global,
     keys: &Keys,
-    reader: &mut ScriptRun<B>,
+    reader: &mut ScriptRun<C, B>,
     byte: u8,
     out: &mut K,
     disk: &mut D,
 ) -> Result<(), Stop>
-    requires { CanTake (D.seen disk.old).size 1 reader.old }
-    ensures within { IsSessionWithin (D.seen disk.new).size reader.new.session }
-    ensures fed { FeedsOrStops (place keys.now (D.seen disk.old).size) (byte ∷ [])
+    requires { CanTake C.Meaning.meaning (D.seen disk.old).size 1 reader.old }
+    ensures within { IsSessionOver C.Meaning.meaning (D.seen disk.new).size reader.new.session }
+    ensures fed { FeedsOrStops
+        (place_over C.Meaning.meaning keys.now (D.seen disk.old).size) (byte ∷ [])
         (run_moment reader.old (K.seen out.old) (D.seen disk.old))
         (run_moment reader.new (K.seen out.new) (D.seen disk.new)) result }
 {
@@ -186,17 +193,18 @@ fn behind(bytes: &[u8], at: usize) -> &[u8]
 
 /// Some bytes of the script. A line that stands whole among them is run from where it stands; of
 /// others the bytes are put to the line at once, and then comes what ends it.
-fn feed<B: Policy, K: Sink, D: Disk>(
+fn feed<C: Calls, B: Policy, K: Sink, D: Disk>(
     alloc: Global,
     keys: &Keys,
-    reader: &mut ScriptRun<B>,
+    reader: &mut ScriptRun<C, B>,
     bytes: &[u8],
     out: &mut K,
     disk: &mut D,
 ) -> Result<(), Stop>
-    requires { CanTake (D.seen disk.old).size (length bytes.now) reader.old }
-    ensures within { IsSessionWithin (D.seen disk.new).size reader.new.session }
-    ensures fed { FeedsOrStops (place keys.now (D.seen disk.old).size) bytes.now
+    requires { CanTake C.Meaning.meaning (D.seen disk.old).size (length bytes.now) reader.old }
+    ensures within { IsSessionOver C.Meaning.meaning (D.seen disk.new).size reader.new.session }
+    ensures fed { FeedsOrStops
+        (place_over C.Meaning.meaning keys.now (D.seen disk.old).size) bytes.now
         (run_moment reader.old (K.seen out.old) (D.seen disk.old))
         (run_moment reader.new (K.seen out.new) (D.seen disk.new)) result }
 {
@@ -224,7 +232,7 @@ fn feed<B: Policy, K: Sink, D: Disk>(
 }
 
 /// Writes the last lines of a run, which ends with this status.
-fn write_last<B: Policy, K: Sink>(reader: &ScriptRun<B>, status: u8, out: &mut K) -> u8
+fn write_last<C: Calls, B: Policy, K: Sink>(reader: &ScriptRun<C, B>, status: u8, out: &mut K) -> u8
     requires { (status ≡ 0) ⊎ (status ≡ 2) }
     ensures { WritesLast reader.now.out.lines status (K.seen out.old) (K.seen out.new) result }
 {
@@ -236,9 +244,9 @@ fn write_last<B: Policy, K: Sink>(reader: &ScriptRun<B>, status: u8, out: &mut K
 
 /// The input has ended: bytes behind the last newline are refused, and else a line is written for
 /// each call that is left.
-fn finish<B: Policy, K: Sink>(reader: &mut ScriptRun<B>, out: &mut K) -> u8
+fn finish<C: Calls, B: Policy, K: Sink>(reader: &mut ScriptRun<C, B>, out: &mut K) -> u8
     requires lines { reader.old.session.lines < 2 ^ 32 - 2 }
-    requires within { (size : ℕ) × IsSessionWithin size reader.old.session }
+    requires within { (size : ℕ) × IsSessionOver C.Meaning.meaning size reader.old.session }
     ensures { WritesLast (last_bytes (seen_of reader.old.session) reader.old.line)
         (last_status reader.old.line) (K.seen out.old) (K.seen out.new) result }
 {
@@ -262,26 +270,28 @@ fn status_of(stop: Stop) -> u8
 
 /// Runs the script that the source gives, to its end or to the first thing that stops it. The
 /// status.
-pub fn run_to_end<B: Policy, S: Source, K: Sink, D: Disk>(
+pub fn run_to_end<C: Calls, B: Policy, S: Source, K: Sink, D: Disk>(
     loading: Loading<'_>,
-    reader: &mut ScriptRun<B>,
+    reader: &mut ScriptRun<C, B>,
     buf: &mut [u8],
     src: &mut S,
     out: &mut K,
     disk: &mut D,
 ) -> u8
     requires begun { IsBegun (seen_of reader.old.session) }
-    requires within { IsSessionWithin (D.seen disk.old).size reader.old.session }
+    requires within { IsSessionOver C.Meaning.meaning (D.seen disk.old).size reader.old.session }
     requires line { reader.old.line ≡ [] }
     requires room { 0 < length buf.old }
     ensures ran { result ≢ 4 → result ≢ 5 →
-        Ran (place loading.entry.keys.now (D.seen disk.old).size)
+        Ran (place_over C.Meaning.meaning loading.entry.keys.now (D.seen disk.old).size)
         (devices (S.seen src.old) (K.seen out.old) (D.seen disk.old))
         (devices (S.seen src.new) (K.seen out.new) (D.seen disk.new)) result }
-    ensures broke { result ≡ 4 → Broke (place loading.entry.keys.now (D.seen disk.old).size)
+    ensures broke { result ≡ 4 → Broke
+        (place_over C.Meaning.meaning loading.entry.keys.now (D.seen disk.old).size)
         (devices (S.seen src.old) (K.seen out.old) (D.seen disk.old))
         (devices (S.seen src.new) (K.seen out.new) (D.seen disk.new)) }
-    ensures lacked { result ≡ 5 → Lacked (place loading.entry.keys.now (D.seen disk.old).size)
+    ensures lacked { result ≡ 5 → Lacked
+        (place_over C.Meaning.meaning loading.entry.keys.now (D.seen disk.old).size)
         (devices (S.seen src.old) (K.seen out.old) (D.seen disk.old))
         (devices (S.seen src.new) (K.seen out.new) (D.seen disk.new)) }
     ensures statuses { (result ≡ 0) ⊎ (result ≡ 2) ⊎ (result ≡ 3) ⊎ (result ≡ 4) ⊎ (result ≡ 5)

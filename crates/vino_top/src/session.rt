@@ -14,22 +14,20 @@ ghost use Rattle.script_model.specs.Session.{fault_text};
 ghost use Rattle.script_text.specs.Answers.{entry_seen, SetsWithin};
 ghost use Rattle.script_model.specs.Images as images;
 ghost use Rattle.script_model.specs.Kernel.{Kernel as Abstract};
-ghost use Rattle.script_model.specs.AllCalls.{all_calls};
 ghost use Rattle.script_model.specs.Sound.{IsAtRest};
 ghost use Rattle.running_kernel.specs.Views.{placed_of, IsRunning, HasAbstraction};
 ghost use Rattle.placed_laws.specs.Stands as kernels;
 ghost use Rattle.kernel_core.specs.declared.images.ImageRefusal.TheVariants.{Unloaded};
 ghost use Rattle.kernel_core.specs.AddedImages.{slot_refused, has_memory, image_said, ImageIsAdded};
-ghost use Rattle.vino_top.specs.Bounds.{IsStock, IsSessionWithin, IsOnLine, CanRunEntry};
+ghost use Rattle.vino_top.specs.Bounds.{IsStock, IsSessionOver, IsOnLine, CanRunEntry};
 ghost use Rattle.vino_top.specs.Standing.{seen_of, IsBegun, last_bytes, code_seen};
-ghost use Rattle.vino_top.specs.Run.{Place, place, LoadsFree, WantsAt, RunsLine, RunsEntry};
+ghost use Rattle.vino_top.specs.Run.{Place, place_over, LoadsFree, WantsAt, RunsLine, RunsEntry};
 ghost use Rattle.vino_top.specs.Run.{LeavesText, boot_line, left_in};
 
-use crate::AllCalls;
 use crate::lines::Lines;
 use crate::loading::say_image;
 use arrayvec::ArrayVec;
-use call_pieces::{Policy, Ram};
+use call_pieces::{Calls, Policy, Ram};
 use graft_loader::{Images, Keys, LoadFault};
 use kernel_core::{BootNote, ImageRefusal, Kernel, Setup, Trace};
 use kernel_data::{BLOCK_BYTES, BareEvent, BareNote, NoMemory, Refusal};
@@ -71,15 +69,15 @@ impl Buffers {
     }
 }
 
-/// How far a script has come.
+/// How far a script has come, in a kernel over a table of calls.
 #[derive(Drop)]
-pub struct Session<B: Policy> {
+pub struct Session<C: Calls, B: Policy> {
     /// What the set-up lines set.
     pub setup: Setup,
     /// Whether `boot` was run.
     pub booted: bool,
     /// What `boot` begins anew.
-    pub kernel: Kernel<AllCalls, B>,
+    pub kernel: Kernel<C, B>,
     /// How many lines were taken.
     pub lines: u32,
     /// How many events were counted.
@@ -88,11 +86,11 @@ pub struct Session<B: Policy> {
     pub refused: bool,
 }
 
-impl<B: Policy> Session<B> {
+impl<C: Calls, B: Policy> Session<C, B> {
     /// Before the first line, with the stock policies.
-    pub fn new(alloc: Global, shelf: Vec<B>) -> Result<Session<B>, NoMemory>
+    pub fn new(alloc: Global, shelf: Vec<B>) -> Result<Session<C, B>, NoMemory>
         requires { IsStock (map B.seen shelf.items) }
-        ensures within { IfOk result (λ s. (size : ℕ) → IsSessionWithin size s) }
+        ensures within { IfOk result (λ s. (size : ℕ) → IsSessionOver C.Meaning.meaning size s) }
         ensures begun { IfOk result (λ s. IsBegun (seen_of s)) }
     {
         let setup = Setup {
@@ -130,14 +128,16 @@ impl<B: Policy> Session<B> {
         out: &mut Buffers,
     ) -> Result<(), NoMemory>
         requires room { self.old.lines < 2 ^ 32 - 2 }
-        requires within { IsSessionWithin (D.seen disk.old).size self.old }
+        requires within { IsSessionOver C.Meaning.meaning (D.seen disk.old).size self.old }
         requires short { length text.now ≤ 65536 }
-        ensures within { IsSessionWithin (D.seen disk.new).size self.new }
+        ensures within { IsSessionOver C.Meaning.meaning (D.seen disk.new).size self.new }
         ensures counted { self.new.lines ≤ self.old.lines + 1 }
-        ensures ok { OnOk result (RunsLine (place keys.now (D.seen disk.old).size) text.now
+        ensures ok { OnOk result (RunsLine
+            (place_over C.Meaning.meaning keys.now (D.seen disk.old).size) text.now
             (seen_of self.old) (seen_of self.new) (D.seen disk.old) (D.seen disk.new)
             (left_in out.new)) }
-        ensures err { OnErr result ((self.new ≡ self.old) × WantsAt (seen_of self.old) text.now) }
+        ensures err { OnErr result ((self.new ≡ self.old)
+            × WantsAt C.Meaning.meaning (seen_of self.old) text.now) }
         ensures same_disk { OnErr result (D.seen disk.new ≡ D.seen disk.old) }
     {
         out.clear();
@@ -165,8 +165,8 @@ impl<B: Policy> Session<B> {
     /// Takes a line that is longer than a line may be.
     pub fn refuse_long(&mut self, out: &mut Buffers)
         requires room { self.old.lines < 2 ^ 32 - 2 }
-        ensures within { (size : ℕ) → IsSessionWithin size self.old →
-            IsSessionWithin size self.new }
+        ensures within { (size : ℕ) → IsSessionOver C.Meaning.meaning size self.old →
+            IsSessionOver C.Meaning.meaning size self.new }
         ensures counted { self.new.lines ≤ self.old.lines + 1 }
         ensures runs { (c : Place) (text : List ℕ) (d : DiskSeen) → 65536 < length text →
             RunsLine c text (seen_of self.old) (seen_of self.new) d d (left_in out.new) }
@@ -201,13 +201,14 @@ impl<B: Policy> Session<B> {
         disk: &mut D,
         out: &mut Buffers,
     ) -> Result<(), NoMemory>
-        requires can { CanRunEntry (D.seen disk.old).size self.old out.old }
+        requires can { CanRunEntry C.Meaning.meaning (D.seen disk.old).size self.old out.old }
         requires limits { SetsWithin (Ok entry.now) }
         requires place { entry_seen entry.now out.old.bytes.items ≡ Boot →
             self.old.booted ≡ false }
-        ensures within { IsSessionWithin (D.seen disk.new).size self.new }
+        ensures within { IsSessionOver C.Meaning.meaning (D.seen disk.new).size self.new }
         ensures counted { self.new.lines ≡ self.old.lines }
-        ensures runs { OnOk result (RunsEntry (place keys.now (D.seen disk.old).size)
+        ensures runs { OnOk result (RunsEntry
+            (place_over C.Meaning.meaning keys.now (D.seen disk.old).size)
             (entry_seen entry.now out.old.bytes.items) (seen_of self.old) (seen_of self.new)
             (D.seen disk.old) (D.seen disk.new) (left_in out.new)) }
         ensures err { OnErr result ((self.new ≡ self.old)
@@ -247,10 +248,11 @@ impl<B: Policy> Session<B> {
     /// The kernel begins.
     fn boot<D: Disk>(&mut self, disk: &mut D, out: &mut Buffers)
         requires first { self.old.booted ≡ false }
-        requires within { IsSessionWithin (D.seen disk.old).size self.old }
+        requires within { IsSessionOver C.Meaning.meaning (D.seen disk.old).size self.old }
         requires empty { LeavesText (left_in out.old) [] }
-        ensures within { IsSessionWithin (D.seen disk.new).size self.new }
-        ensures runs { (keys : Keys) → RunsEntry (place keys (D.seen disk.old).size) Boot
+        ensures within { IsSessionOver C.Meaning.meaning (D.seen disk.new).size self.new }
+        ensures runs { (keys : Keys) → RunsEntry
+            (place_over C.Meaning.meaning keys (D.seen disk.old).size) Boot
             (seen_of self.old) (seen_of self.new) (D.seen disk.old) (D.seen disk.new)
             (left_in out.new) }
     {
@@ -270,18 +272,20 @@ impl<B: Policy> Session<B> {
         bytes: &ImageBytes,
     ) -> Result<Result<(u32, u32), ImageRefusal>, NoMemory>
         requires running { IsRunning self.old.kernel.running }
-        requires abstraction { HasAbstraction all_calls (placed_of self.old.kernel.running) }
+        requires abstraction { HasAbstraction C.Meaning.meaning
+            (placed_of self.old.kernel.running) }
         ensures memory { IfOk result (λ answer. has_memory answer ≡ true) }
         ensures added { IfOk result (λ answer. (k : Abstract) →
-            kernels.StandsFor all_calls (placed_of self.old.kernel.running) k →
-            IsAtRest all_calls k →
-            ImageIsAdded all_calls slot (images.load keys.now bytes.now) k
+            kernels.StandsFor C.Meaning.meaning (placed_of self.old.kernel.running) k →
+            IsAtRest C.Meaning.meaning k →
+            ImageIsAdded C.Meaning.meaning slot (images.load keys.now bytes.now) k
             (placed_of self.new.kernel.running) (image_said answer)) }
         ensures err { OnErr result ((self.new ≡ self.old)
             × (slot_refused (placed_of self.old.kernel.running).images slot ≡ None)) }
         ensures state { self.new ≡ record self.old { kernel = self.new.kernel } }
         ensures running { IsRunning self.new.kernel.running }
-        ensures abstraction { HasAbstraction all_calls (placed_of self.new.kernel.running) }
+        ensures abstraction { HasAbstraction C.Meaning.meaning
+            (placed_of self.new.kernel.running) }
         ensures store { self.new.kernel.running.store ≡ self.old.kernel.running.store }
         ensures clock { self.new.kernel.running.clock ≡ self.old.kernel.running.clock }
     {
@@ -305,14 +309,14 @@ impl<B: Policy> Session<B> {
         bytes: &ImageBytes,
         out: &mut Buffers,
     ) -> Result<(), NoMemory>
-        requires counted { (size : ℕ) × IsOnLine size self.old }
+        requires counted { (size : ℕ) × IsOnLine C.Meaning.meaning size self.old }
         requires empty { LeavesText (left_in out.old) [] }
-        ensures within { (size : ℕ) → IsSessionWithin size self.old →
-            IsSessionWithin size self.new }
+        ensures within { (size : ℕ) → IsSessionOver C.Meaning.meaning size self.old →
+            IsSessionOver C.Meaning.meaning size self.new }
         ensures counted { self.new.lines ≡ self.old.lines }
         ensures runs { OnOk result ((size : ℕ) (d : DiskSeen) →
-            RunsEntry (place keys.now size) (Loads slot bytes.now) (seen_of self.old)
-            (seen_of self.new) d d (left_in out.new)) }
+            RunsEntry (place_over C.Meaning.meaning keys.now size) (Loads slot bytes.now)
+            (seen_of self.old) (seen_of self.new) d d (left_in out.new)) }
         ensures err { OnErr result ((self.new ≡ self.old)
             × LoadsFree (seen_of self.old) (Loads slot bytes.now)) }
     {
@@ -363,13 +367,14 @@ impl<B: Policy> Session<B> {
 
     /// The rows that show the kernel's whole state, as an event.
     fn raw(&mut self, out: &mut Buffers)
-        requires counted { (size : ℕ) × IsOnLine size self.old }
+        requires counted { (size : ℕ) × IsOnLine C.Meaning.meaning size self.old }
         requires empty { LeavesText (left_in out.old) [] }
-        ensures within { (size : ℕ) → IsSessionWithin size self.old →
-            IsSessionWithin size self.new }
+        ensures within { (size : ℕ) → IsSessionOver C.Meaning.meaning size self.old →
+            IsSessionOver C.Meaning.meaning size self.new }
         ensures counted { self.new.lines ≡ self.old.lines }
-        ensures runs { (c : Place) (d : DiskSeen) →
-            RunsEntry c Raw (seen_of self.old) (seen_of self.new) d d (left_in out.new) }
+        ensures runs { (keys : Keys) (size : ℕ) (d : DiskSeen) →
+            RunsEntry (place_over C.Meaning.meaning keys size) Raw (seen_of self.old)
+            (seen_of self.new) d d (left_in out.new) }
     {
         if self.booted {
             self.events += 1;
@@ -379,9 +384,10 @@ impl<B: Policy> Session<B> {
 
     /// An event of the kernel.
     fn happen<D: Disk>(&mut self, event: BareEvent, disk: &mut D, out: &mut Buffers)
-        requires { CanRunEntry (D.seen disk.old).size self.old out.old }
-        ensures within { IsSessionWithin (D.seen disk.new).size self.new }
-        ensures runs { (keys : Keys) → RunsEntry (place keys (D.seen disk.old).size)
+        requires { CanRunEntry C.Meaning.meaning (D.seen disk.old).size self.old out.old }
+        ensures within { IsSessionOver C.Meaning.meaning (D.seen disk.new).size self.new }
+        ensures runs { (keys : Keys) → RunsEntry
+            (place_over C.Meaning.meaning keys (D.seen disk.old).size)
             (Happens (event_with event out.old.bytes.items)) (seen_of self.old) (seen_of self.new)
             (D.seen disk.old) (D.seen disk.new) (left_in out.new) }
     {

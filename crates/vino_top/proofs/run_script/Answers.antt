@@ -1,6 +1,6 @@
 -- Without memory nothing was read, written or called.
 use Rattle.std.proofs.Common.{subst, sym}
-use Rattle.vino_top.specs.Bounds.{IsSessionWithin}
+use Rattle.vino_top.specs.Bounds.{IsSessionOver}
 use Rattle.vino_top.specs.Run.{devices}
 use Rattle.vino_top.proofs.EndLemmas.{no_memory}
 use Rattle.vino_top.proofs.run_script.Goals as goal
@@ -12,7 +12,7 @@ returns-in-Err g c =
 
 pub start-requires-clause-within : goal.start-requires-clause-within
 start-requires-clause-within g c = λ size.
-    subst (IsSessionWithin size) (sym c.in-Ok-new.ensures.session) (c.in-Ok.ensures.within size)
+    subst (IsSessionOver g.C.Meaning.Rules.meaning size) (sym c.in-Ok-new.ensures.session) (c.in-Ok.ensures.within size)
 
 pub returns-in_default : goal.returns-in_default
 returns-in_default g c =

@@ -8,6 +8,11 @@ known_image : (status : ℕ) → (status ≡ 0) ⊎ (status ≡ 2) ⊎ (status �
     ⊎ (status ≡ 5) ⊎ (status ≡ 6) ⊎ (status ≡ 7) → status ≢ 1
 known_image status cases = λ is. grind (arith, cases, is)
 
+-- nor are those of the auditor
+known_audit : (status : ℕ) → (status ≡ 0) ⊎ (status ≡ 2) ⊎ (status ≡ 3) ⊎ (status ≡ 4)
+    ⊎ (status ≡ 5) ⊎ (status ≡ 7) ⊎ (status ≡ 8) → status ≢ 1
+known_audit status cases = λ is. grind (arith, cases, is)
+
 pub run_script-requires : goal.run_script-requires
 run_script-requires g c = record { shelf = c.requires.shelf; stock = c.requires.stock }
 
@@ -66,6 +71,14 @@ returns-in-Reseal-clause-does g c =
       disk = refl;
     })
 
+pub returns-in-Audit-clause-does : goal.returns-in-Audit-clause-does
+returns-in-Audit-clause-does g c =
+    rw (sym c.read_words.ensures ∙ c.in-Audit.is) (record {
+      known = known_audit c.audit.result c.audit.ensures.statuses;
+      answered = c.audit.ensures.filtered;
+      disk = refl;
+    })
+
 pub returns-in-Demo-clause-does : goal.returns-in-Demo-clause-does
 returns-in-Demo-clause-does g c =
     let demo = c.demo.ensures in
@@ -119,6 +132,12 @@ returns-in-Reseal-clause-source g c = c.reseal_image.ensures.filtered.source
 
 pub returns-in-Reseal-clause-sink : goal.returns-in-Reseal-clause-sink
 returns-in-Reseal-clause-sink g c = c.reseal_image.ensures.filtered.sink
+
+pub returns-in-Audit-clause-source : goal.returns-in-Audit-clause-source
+returns-in-Audit-clause-source g c = c.audit.ensures.filtered.source
+
+pub returns-in-Audit-clause-sink : goal.returns-in-Audit-clause-sink
+returns-in-Audit-clause-sink g c = c.audit.ensures.filtered.sink
 
 pub returns-in-Demo-clause-source : goal.returns-in-Demo-clause-source
 returns-in-Demo-clause-source g c = not_read _ c.demo.result (demo_reads c.demo.result c.demo.ensures.statuses)

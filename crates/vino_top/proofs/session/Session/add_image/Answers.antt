@@ -1,6 +1,5 @@
 use Rattle.std.proofs.Common.{◌≡◌, ℕ, List, Result, true, sym, subst, ◌∙◌}
 use Rattle.script_model.specs.Images.{load}
-use Rattle.script_model.specs.AllCalls.{all_calls}
 use Rattle.running_kernel.specs.Views.{placed_of}
 use Rattle.kernel_core.specs.declared.images.ImageRefusal.{ImageRefusal}
 use Rattle.kernel_core.specs.AddedImages.{has_memory, image_said, ImageIsAdded}
@@ -14,8 +13,9 @@ returns-clause-added g c = λ k stands rests.
     let memory : has_memory c.add_image.result ≡ true =
     subst (λ (a : Result (ℕ × ℕ) ImageRefusal). has_memory a ≡ true) same c.in-Ok.ensures.same.1 in
     let added = c.add_image.ensures.added memory k stands rests in
-    subst (λ (bytes : List ℕ). ImageIsAdded all_calls c.args.slot (load keys bytes) k y (image_said c.in-Ok.answer))
+    subst (λ (bytes : List ℕ). ImageIsAdded g.C.Meaning.Rules.meaning c.args.slot
+    (load keys bytes) k y (image_said c.in-Ok.answer))
     (c.as_slice.ensures.value ∙ c.in_ok-sealed.ensures)
-    (subst (λ (a : Result (ℕ × ℕ) ImageRefusal). ImageIsAdded all_calls c.args.slot
+    (subst (λ (a : Result (ℕ × ℕ) ImageRefusal). ImageIsAdded g.C.Meaning.Rules.meaning c.args.slot
     (load keys c.as_slice.result.now) k y (image_said a))
     (sym same) added)

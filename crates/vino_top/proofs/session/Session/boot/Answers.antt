@@ -1,7 +1,7 @@
 -- The kernel begins as the opening one does, and the note of its boot is written.
 use Rattle.std.proofs.Common.{◌≡◌, [], length, ◌∙◌, ap, sym, arith}
 use Rattle.running_kernel.specs.Views.{placed_of}
-use Rattle.vino_top.specs.Run.{place}
+use Rattle.vino_top.specs.Run.{place_over}
 use Rattle.vino_top.specs.Standing.{seen_of}
 use Rattle.vino_top.proofs.SessionLemmas.{boot_runs, up_is_down}
 use Rattle.vino_top.proofs.session.Session.boot.Goals as goal
@@ -32,7 +32,7 @@ returns-clause-within g c =
 pub returns-clause-runs : goal.returns-clause-runs
 returns-clause-runs g c = λ keys.
     let none : c.args.out.now.lines ≡ [] = c.requires.empty.bytes_are in
-    boot_runs (place keys (g.D.Disk.seen c.args.disk.now).size) (seen_of c.args.self.now)
+    boot_runs (place_over g.C.Meaning.Rules.meaning keys (g.D.Disk.seen c.args.disk.now).size) (seen_of c.args.self.now)
     (placed_of c.boot-note.new.self.running) c.boot-note.result _
     (g.D.Disk.seen c.args.disk.now) (g.D.Disk.seen c.boot-note.new.disk)
     c.boot-note.ensures.booted

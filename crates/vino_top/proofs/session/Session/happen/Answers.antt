@@ -4,7 +4,7 @@ use Rattle.kernel_data.specs.Bare.{event_with}
 use Rattle.script_model.specs.Script.{Happens}
 use Rattle.kernel_data.specs.World.{World}
 use Rattle.running_kernel.specs.Views.{placed_of}
-use Rattle.vino_top.specs.Run.{place}
+use Rattle.vino_top.specs.Run.{place_over}
 use Rattle.vino_top.specs.Standing.{seen_of}
 use Rattle.vino_top.proofs.SessionLemmas.{event_runs, silent_event, unbooted_runs, up_is_down}
 use Rattle.vino_top.proofs.session.Session.happen.Goals as goal
@@ -43,7 +43,8 @@ returns-then-self-clause-within g c =
 
 pub returns-then-self-clause-runs : goal.returns-then-self-clause-runs
 returns-then-self-clause-runs g c = λ keys.
-    event_runs (place keys (g.D.Disk.seen c.args.disk.now).size) (seen_of c.args.self.now)
+    event_runs (place_over g.C.Meaning.Rules.meaning keys (g.D.Disk.seen c.args.disk.now).size)
+    (seen_of c.args.self.now)
     (placed_of c.event.new.self.running) (event_with c.args.event c.args.out.now.bytes.items)
     c.event.new.trace.notes _
     (g.D.Disk.seen c.args.disk.now) (g.D.Disk.seen c.event.new.disk)
@@ -51,7 +52,7 @@ returns-then-self-clause-runs g c = λ keys.
 
 pub returns-else-self-clause-runs : goal.returns-else-self-clause-runs
 returns-else-self-clause-runs g c = λ keys.
-    unbooted_runs (place keys (g.D.Disk.seen c.args.disk.now).size)
+    unbooted_runs (place_over g.C.Meaning.Rules.meaning keys (g.D.Disk.seen c.args.disk.now).size)
     (Happens (event_with c.args.event c.args.out.now.bytes.items)) (seen_of c.args.self.now) _
     (g.D.Disk.seen c.args.disk.now) (λ a rest. refl) (λ p. refl) c.if-self.false
     c.requires.empty

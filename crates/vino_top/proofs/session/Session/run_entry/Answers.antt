@@ -1,6 +1,6 @@
 -- Each entry has its law; a boot, events, images and the rows have functions of their own.
 use Rattle.std.proofs.Common.{ap, refl}
-use Rattle.vino_top.specs.Run.{place}
+use Rattle.vino_top.specs.Run.{place_over}
 use Rattle.vino_top.specs.Parsed.{Parsed}
 use Rattle.vino_top.specs.Standing.{seen_of}
 use Rattle.vino_top.proofs.SessionLemmas.{on_ok, blank_runs, frames_runs, grant_runs, patience_runs}
@@ -17,23 +17,27 @@ raw-requires-clause-counted g c = ((g.D.Disk.seen c.args.disk.now).size, c.requi
 
 pub returns-in-Blank-clause-runs : goal.returns-in-Blank-clause-runs
 returns-in-Blank-clause-runs g c =
-    rw c.in-Blank.is (blank_runs (place c.args.keys.now (g.D.Disk.seen c.args.disk.now).size)
+    rw c.in-Blank.is (blank_runs
+    (place_over g.C.Meaning.Rules.meaning c.args.keys.now (g.D.Disk.seen c.args.disk.now).size)
     (seen_of c.args.self.now) _ (g.D.Disk.seen c.args.disk.now) c.requires.can.empty)
 
 pub returns-in-Frames-clause-runs : goal.returns-in-Frames-clause-runs
 returns-in-Frames-clause-runs g c =
-    rw c.in-Frames.is (frames_runs (place c.args.keys.now (g.D.Disk.seen c.args.disk.now).size)
+    rw c.in-Frames.is (frames_runs
+    (place_over g.C.Meaning.Rules.meaning c.args.keys.now (g.D.Disk.seen c.args.disk.now).size)
     (seen_of c.args.self.now) c.in-Frames.n _ (g.D.Disk.seen c.args.disk.now) c.requires.can.empty)
 
 pub returns-in-Patience-clause-runs : goal.returns-in-Patience-clause-runs
 returns-in-Patience-clause-runs g c =
-    rw c.in-Patience.is (patience_runs (place c.args.keys.now (g.D.Disk.seen c.args.disk.now).size)
+    rw c.in-Patience.is (patience_runs
+    (place_over g.C.Meaning.Rules.meaning c.args.keys.now (g.D.Disk.seen c.args.disk.now).size)
     (seen_of c.args.self.now) c.in-Patience.kind c.in-Patience.ticks c.set_patience.new.patience
     _ (g.D.Disk.seen c.args.disk.now) c.set_patience.ensures.value c.requires.can.empty)
 
 pub returns-in-Grant-clause-runs : goal.returns-in-Grant-clause-runs
 returns-in-Grant-clause-runs g c =
-    rw c.in-Grant.is (grant_runs (place c.args.keys.now (g.D.Disk.seen c.args.disk.now).size)
+    rw c.in-Grant.is (grant_runs
+    (place_over g.C.Meaning.Rules.meaning c.args.keys.now (g.D.Disk.seen c.args.disk.now).size)
     (seen_of c.args.self.now) c.in-Grant.n _ (g.D.Disk.seen c.args.disk.now) c.requires.can.empty)
 
 pub returns-in-Boot-clause-runs : goal.returns-in-Boot-clause-runs
@@ -57,7 +61,7 @@ returns-in-Raw-clause-within g c =
 
 pub returns-in-Raw-clause-runs : goal.returns-in-Raw-clause-runs
 returns-in-Raw-clause-runs g c =
-    rw c.in-Raw.is (c.raw.ensures.runs (place c.args.keys.now (g.D.Disk.seen c.args.disk.now).size)
+    rw c.in-Raw.is (c.raw.ensures.runs c.args.keys.now (g.D.Disk.seen c.args.disk.now).size
     (g.D.Disk.seen c.args.disk.now))
 
 pub returns-in-Boot-clause-counted : goal.returns-in-Boot-clause-counted

@@ -1,7 +1,7 @@
 -- A line is refused, or run for what it says.
 use Rattle.std.proofs.Common.{refl, ◌∙◌, ap, Ok, arith, ◌≡◌, ◌+◌, ◌-◌}
 use Rattle.script_text.specs.Answers.{entry_seen}
-use Rattle.vino_top.specs.Run.{place}
+use Rattle.vino_top.specs.Run.{place_over}
 use Rattle.vino_top.specs.Standing.{seen_of}
 use Rattle.vino_top.proofs.PlaceLemmas.{boot_is_first}
 use Rattle.vino_top.proofs.SessionLemmas.{line_after_refusal, line_refused_as, line_entered}
@@ -25,7 +25,7 @@ refuse-requires g c = c.clear.ensures
 
 pub returns-in-Err-clause-ok : goal.returns-in-Err-clause-ok
 returns-in-Err-clause-ok g c =
-    line_refused_as (place c.args.keys.now (g.D.Disk.seen c.args.disk.now).size)
+    line_refused_as (place_over g.C.Meaning.Rules.meaning c.args.keys.now (g.D.Disk.seen c.args.disk.now).size)
     (seen_of c.args.self.now) (seen_of c.refuse.new.self) c.args.text.now _ c.in-Err.fault
     c.fault_code.result
     (g.D.Disk.seen c.args.disk.now) c.if-self.false
@@ -34,7 +34,7 @@ returns-in-Err-clause-ok g c =
 
 pub returns-in_default-clause-ok : goal.returns-in_default-clause-ok
 returns-in_default-clause-ok g c =
-    line_entered (place c.args.keys.now (g.D.Disk.seen c.args.disk.now).size)
+    line_entered (place_over g.C.Meaning.Rules.meaning c.args.keys.now (g.D.Disk.seen c.args.disk.now).size)
     (seen_of c.args.self.now) (seen_of c.run_entry.new.self) c.args.text.now _
     (entry_seen c.parse_line.new.entry c.parse_line.new.bytes.items)
     (g.D.Disk.seen c.args.disk.now) (g.D.Disk.seen c.run_entry.new.disk)
@@ -44,7 +44,7 @@ pub returns-in-Err-run_entry-clause-err : goal.returns-in-Err-run_entry-clause-e
 returns-in-Err-run_entry-clause-err g c =
     let lines : c.args.self.now.lines + 1 - 1 ≡ c.args.self.now.lines = omega arith in (
       rw (c.in-Err-run_entry.ensures.err.0, lines) refl,
-      wants_free (seen_of c.args.self.now)
+      wants_free g.C.Meaning.Rules.meaning (seen_of c.args.self.now)
           c.args.text.now (entry_seen c.parse_line.new.entry c.parse_line.new.bytes.items)
           c.if-self.false (rw c.in-Ok.is at c.parse_line.ensures.answer)
           c.in-Err-run_entry.ensures.err.1,
@@ -52,7 +52,7 @@ returns-in-Err-run_entry-clause-err g c =
 
 pub returns-then-self-clause-ok : goal.returns-then-self-clause-ok
 returns-then-self-clause-ok g c =
-    line_after_refusal (place c.args.keys.now (g.D.Disk.seen c.args.disk.now).size)
+    line_after_refusal (place_over g.C.Meaning.Rules.meaning c.args.keys.now (g.D.Disk.seen c.args.disk.now).size)
     (seen_of c.args.self.now) c.args.text.now _
     (g.D.Disk.seen c.args.disk.now) c.if-self.true
     c.clear.ensures
