@@ -35,7 +35,7 @@ after_end place code (suc n) r halt e =
       | None ↦ run_by place code n (run_step place code r)
     ]) e
 
-no_more : (place : Places) (code : List Instr) (a b : ℕ) (r : CodeRun) (halt : Halt) → a ≤ b →
+pub no_more : (place : Places) (code : List Instr) (a b : ℕ) (r : CodeRun) (halt : Halt) → a ≤ b →
     (run_by place code a r).ended ≡ Some halt → run_by place code b r ≡ run_by place code a r
 no_more place code zero b r halt most e = after_end place code b r halt e
 no_more place code (suc a) zero r halt most e = absurd (omega (arith, most))
@@ -116,7 +116,7 @@ some_code : (code : List Instr) → ends_well code ≡ true → 0 < length code
 some_code [] e = cc
 some_code (i ∷ is) e = omega arith
 
-first_home : (code : List Instr) (args segment : List ℕ) → IsBoxed code → length segment ≡ 4096 →
+pub first_home : (code : List Instr) (args segment : List ℕ) → IsBoxed code → length segment ≡ 4096 →
     IsHome code (first_machine (segment_base 0) args (by_place segment))
 first_home code args segment boxed size =
     record {

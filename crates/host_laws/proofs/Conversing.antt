@@ -35,7 +35,8 @@ finds f plugin (x ∷ xs) e = by_stop (λ q. finds f plugin xs q) e.stop refl
     of_stop : Stop → Found
     of_stop why = found_by f e.left e.state (judged f why (e.state.machine.regs 0))
 
-    by_taken : (t : Bool) → let g = found_by f e.left e.state (cond t Returns (Drops BAD_ANSWER (e.state.machine.regs 0))) in
+    by_taken : (t : Bool) →
+        let g = found_by f e.left e.state (cond t Returns (Drops BAD_ANSWER (e.state.machine.regs 0))) in
         goes_on plugin x xs g ≡ g
     by_taken true = refl
     by_taken false = refl

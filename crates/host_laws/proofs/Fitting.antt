@@ -1,5 +1,6 @@
 -- The registers of a run fit 32 bits, and so do the words that the table gives it.
-use Rattle.std.proofs.Common.{◌≡◌, ◌≢◌, ℕ, zero, suc, ◌+◌, ◌^◌, ◌<◌, ◌≤◌, Bool, true, false, cond, not, List, [], ◌∷◌, ◌++◌}
+use Rattle.std.proofs.Common.{◌≡◌, ◌≢◌, ℕ, zero, suc, ◌+◌, ◌^◌, ◌<◌, ◌≤◌, Bool, true, false, cond, not}
+use Rattle.std.proofs.Common.{List, [], ◌∷◌, ◌++◌}
 use Rattle.std.proofs.Common.{Option, None, Some, refl, sym, ap, subst, ◌∙◌, arith}
 use Rattle.std.specs.Prelude.{⊤, ◌==◌, nat_le, slice_get, slice_set}
 use Rattle.std.proofs.lemmas.Bool.{eqb-true, eqb-false}
@@ -130,7 +131,7 @@ other_place (x ∷ xs) zero (suc j) v h = refl
 other_place (x ∷ xs) (suc i) zero v h = refl
 other_place (x ∷ xs) (suc i) (suc j) v h = other_place xs i j v (λ e. h (ap suc e))
 
-word_fits : (table : List Word) (k : ℕ) (v : Word) → v.value < 2 ^ 32 → FitTable table →
+pub word_fits : (table : List Word) (k : ℕ) (v : Word) → v.value < 2 ^ 32 → FitTable table →
     FitTable (slice_set table k v)
 word_fits table k v h all j w g = by_test (k == j) refl
   where
@@ -260,7 +261,7 @@ after_done_fits number rest left (Done.Trapped code) s h fits all = fits
 after_done_fits number rest left Done.Outside s h fits all = fits
 after_done_fits number rest left Done.PastEnd s h fits all = fits
 
-run_fits : (number : ℕ) (code : List Instr) (n : ℕ) (s : State) → Fits s → Fits (host_run number code n s).state
+pub run_fits : (number : ℕ) (code : List Instr) (n : ℕ) (s : State) → Fits s → Fits (host_run number code n s).state
 unfolding host_run
 run_fits number code zero s fits = fits
 run_fits number code (suc n) s fits =

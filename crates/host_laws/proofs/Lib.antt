@@ -18,3 +18,5 @@ pub mod Aloneness
 pub mod Sound
 pub mod Fitting
 pub mod Written
+pub mod Completing
+pub mod WrittenHistories

@@ -66,7 +66,7 @@ most_accesses code (suc n) r = by_end (most_accesses code n (run_step masked_pla
 
 -- ---- the law
 
-are_arguments : (request : Request) → HasWords request →
+pub are_arguments : (request : Request) → HasWords request →
     AreArguments (request.r0 ∷ request.r1 ∷ request.r2 ∷ request.r3 ∷ [])
 are_arguments request h zero = h.r0
 are_arguments request h (suc zero) = h.r1
@@ -74,7 +74,7 @@ are_arguments request h (suc (suc zero)) = h.r2
 are_arguments request h (suc (suc (suc zero))) = h.r3
 are_arguments request h (suc (suc (suc (suc i)))) = omega arith
 
-registers_fit : (args : List ℕ) → AreArguments args →
+pub registers_fit : (args : List ℕ) → AreArguments args →
     FitRegisters (λ r. cond (r == 15) (segment_base 0) (cond (nat_lt r 4) (slice_index args r) 0))
 registers_fit args h i = by_tests (i == 15) (nat_lt i 4)
   where
@@ -85,7 +85,8 @@ registers_fit args h i = by_tests (i == 15) (nat_lt i 4)
 
 -- by how raw code ended
 by_halt : (request : Request) (fed : List ℕ) (raw : CodeRun) (f : Found) (end : End) → end ≢ Going →
-    ((h : Halt) → raw.ended ≡ Some h → IsFoundAsRaw request fed raw f) → (h : Option Halt) → raw.ended ≡ h → end_by raw h ≡ Some end →
+    ((h : Halt) → raw.ended ≡ Some h → IsFoundAsRaw request fed raw f) → (h : Option Halt) → raw.ended ≡ h →
+    end_by raw h ≡ Some end →
     IsFoundAsSaid request fed end f
 by_halt request fed raw f end goes as_raw None is says = absurd (goes cc)
 by_halt request fed raw f end goes as_raw (Some (Unanswered id)) is says =
@@ -95,7 +96,8 @@ by_halt request fed raw f end goes as_raw (Some AtReturn) is says =
       answered = λ r0 r1 e takes.
           let first : raw.machine.regs 0 ≡ r0 = cc in
           let second : raw.machine.regs 1 ≡ r1 = cc in
-          let back = (as_raw AtReturn is).returned is (ap (λ (x : ℕ). is_taken request.point (length fed) x) first ∙ takes) in
+          let back = (as_raw AtReturn is).returned is
+          (ap (λ (x : ℕ). is_taken request.point (length fed) x) first ∙ takes) in
           (back.kind, back.r0 ∙ first, back.r1 ∙ second);
       divided = λ e. cc;
       trapped = λ code e. cc;
@@ -128,7 +130,7 @@ last_is keys = by_second keys.second refl
     by_second (Some key) e = e
 
 -- what was sealed and loaded is the code that was boxed
-loaded : SealedImagesLoad → (keys : Keys) (i : Image) (plugin : List ℕ) → IsBoxedImage i →
+pub loaded : SealedImagesLoad → (keys : Keys) (i : Image) (plugin : List ℕ) → IsBoxedImage i →
     load keys (sealed_under keys i) ≡ Ok (image_of plugin) → i.code ≡ code_of plugin
 loaded law keys i plugin boxed loads =
     let last = last_key keys in

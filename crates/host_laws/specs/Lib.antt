@@ -5,3 +5,4 @@ pub mod Boxed
 pub mod Alone
 pub mod Histories
 pub mod Written
+pub mod WrittenHistories

@@ -5,6 +5,7 @@ ghost use Rattle.host_laws.specs.Alone.{RunsHangOnTheirWords};
 ghost use Rattle.host_laws.specs.Boxed.{BoxedCallsAreRaw, BoxedPluginsAreRaw};
 ghost use Rattle.host_laws.specs.Histories.{CallsAreOneAtATime};
 ghost use Rattle.host_laws.specs.Written.{WrittenPluginsDoWhatTheySay};
+ghost use Rattle.host_laws.specs.WrittenHistories.{CompletedCallsAreAsWritten};
 ghost use Rattle.host_laws.specs.Claims.{StepsAreRaw, RunsAreRaw, RunsKeepTheTable, RunsLeaveOthers};
 
 /// An instruction of a plug-in is one of its code with each address masked.
@@ -71,3 +72,16 @@ pub fn runs_hang_on_their_words()
 pub fn calls_are_one_at_a_time()
     ensures { CallsAreOneAtATime }
 {}
+
+/// However many calls lie between one another over the same words, each call that completed of a
+/// plug-in that was compiled from a text of the graft language, boxed, sealed and loaded answered what
+/// the text's program answers over the words at the call's place, one call at a time.
+pub fn completed_calls_are_as_written()
+    ensures { CompletedCallsAreAsWritten }
+{
+    graft_machine::laws::stays_inside();
+    box_rewriter::laws::rewritten_is_boxed();
+    box_rewriter::laws::boxed_does_what_raw_does();
+    graft_loader::laws::sealed_images_load();
+    calls_are_one_at_a_time();
+}

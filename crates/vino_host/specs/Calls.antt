@@ -41,15 +41,20 @@ pub record Found : Type 0 where
 
 -- ---- what stands in the caller's struct
 
-abbrev pub frame_of : Call → Frame
-frame_of call =
+-- what a call keeps, with the segment from before it, which may stand elsewhere
+abbrev pub frame_with : List ℕ → Call → Frame
+frame_with segment call =
     record {
       number = call.number;
       point = call.point;
       fed = call.fed;
       limit = call.limit;
-      segment = call.segment;
+      segment = segment;
     }
+
+-- the same, where the struct keeps the segment
+abbrev pub frame_of : Call → Frame
+frame_of call = frame_with call.segment call
 
 -- the pause that stands in a call's struct
 abbrev pub pause_in : Call → List ℕ → Pause

@@ -1,15 +1,16 @@
 //! Calls of a plug-in: how one begins, goes on, and stops.
 
 ghost use Rattle.std.specs.Prelude.{◌≡◌, ◌≤◌, ◌<◌, ◌-◌, ◌+◌, ◌++◌, List, ℕ, [], ◌∷◌, length};
-ghost use Rattle.std.specs.Prelude.{replicate, take, true, false};
+ghost use Rattle.std.specs.Prelude.{◌==◌, replicate, take, true, false};
 ghost use Rattle.graft_code.specs.Machine.{first_machine, segment_base};
+ghost use Rattle.graft_code.specs.Machine as model;
 ghost use Rattle.vino_host.specs.Codes.{is_drop};
 ghost use Rattle.vino_host.specs.Codes as codes;
 ghost use Rattle.vino_host.specs.HostMachine.{by_place, machine_of};
 ghost use Rattle.vino_host.specs.HostRuns.{state, ended, host_run};
 ghost use Rattle.vino_host.specs.Tables.{records_of, undone};
 ghost use Rattle.vino_host.specs.Plugins.{code_of};
-ghost use Rattle.vino_host.specs.Calls.{frame_of, pause_in, found_by, found, found_in};
+ghost use Rattle.vino_host.specs.Calls.{frame_of, frame_with, pause_in, found_by, found, found_in};
 ghost use Rattle.vino_host.specs.Calls.{first_segment, first_frame, call_says, resumed, MISUSED_ANSWER};
 ghost use Rattle.vino_host.specs.Calls as spec;
 
@@ -82,7 +83,9 @@ fn given_bytes(point: u32, r0: u32) -> u32
 
 /// How a call stops: an answer that its point doesn't take drops it.
 fn judged(call: &Call, stop: Stop, r0: u32) -> Stop
-    ensures { result ≡ spec.judged (frame_of call.now) stop r0 }
+    ensures frame { result ≡ spec.judged (frame_of call.now) stop r0 }
+    ensures before { (segment : List ℕ) →
+        result ≡ spec.judged (frame_with segment call.now) stop r0 }
 {
     match stop {
         Stop::Returns => {
@@ -193,6 +196,70 @@ fn run_on(
     settle(call, &stopped, segment, table)
 }
 
+/// A call is dropped that ran in bytes of its own: the caller's segment is as it was.
+fn undo_words(call: &mut Call, left: u32, cause: u32, detail: u32, table: &mut [Word]) -> Answer
+    ensures { (before : List ℕ) (machine : model.Machine) → found_in result call.new before table.new
+        ≡ found_by (frame_with before call.old) left
+        (state machine table.old (records_of call.old.log)) (Stop.Drops cause detail) }
+{
+    undo(table, &call.log);
+    call.state = 0;
+    plain_answer(cause, detail, call.limit.saturating_sub(left))
+}
+
+/// A call that ran in bytes of its own completes, waits or is dropped, as its run says. Where it
+/// isn't dropped, the caller's segment gets these bytes.
+fn hand_over(call: &mut Call, stopped: &Stopped, segment: &mut [u8], table: &mut [Word]) -> Answer
+    requires { length segment.old ≡ 4096 }
+    ensures { found_in result call.new segment.new table.new
+        ≡ found (frame_with segment.old call.old) (ended stopped.now.stop stopped.now.left
+        (state (machine_of stopped.now.machine call.old.segment) table.old
+        (records_of call.old.log))) }
+{
+    let machine = &stopped.machine;
+    let left = stopped.left;
+    match judged(call, stopped.stop, machine.reg(0)) {
+        Stop::Returns => {
+            let bytes = &call.segment;
+            segment.copy_from_slice(bytes);
+            complete(call, machine, left, table)
+        }
+        Stop::Waits(id) => {
+            call.segment.swap_with_slice(segment);
+            wait(call, machine, left, id, table)
+        }
+        Stop::Drops(cause, detail) => undo_words(call, left, cause, detail, table),
+    }
+}
+
+/// A call runs from this machine on in bytes of its own, with so many instructions left.
+fn run_apart(
+    plugin: &[u8],
+    call: &mut Call,
+    machine: Machine,
+    left: u32,
+    segment: &mut [u8],
+    table: &mut [Word],
+) -> Answer
+    requires { length segment.old ≡ 4096 }
+    ensures { found_in result call.new segment.new table.new
+        ≡ found (frame_with segment.old call.old)
+        (host_run call.old.number (code_of plugin.now) left
+        (state (machine_of machine call.old.segment) table.old (records_of call.old.log))) }
+{
+    let number = call.number;
+    let stopped = run(
+        machine,
+        &mut call.segment,
+        code(plugin),
+        table,
+        &mut call.log,
+        number,
+        left,
+    );
+    hand_over(call, &stopped, segment, table)
+}
+
 /// Data with zeros behind.
 fn fill(segment: &mut [u8], body: &[u8])
     requires { length body.now ≤ length segment.old }
@@ -235,11 +302,11 @@ fn first(request: &Request) -> Machine
     Machine { regs, pc: 0 }
 }
 
-/// What a call keeps, with no record.
-fn keep(call: &mut Call, request: &Request, bytes: &[u8], segment: &[u8])
-    requires size { length segment.now ≡ 4096 }
-    requires few { length bytes.now ≤ 512 }
-    ensures frame { frame_of call.new ≡ first_frame request.now bytes.now segment.now }
+/// What a call keeps beside the segment, with no record.
+fn keep(call: &mut Call, request: &Request, bytes: &[u8])
+    requires { length bytes.now ≤ 512 }
+    ensures frame { (segment : List ℕ) →
+        frame_with segment call.new ≡ first_frame request.now bytes.now segment }
     ensures records { records_of call.new.log ≡ [] }
 {
     call.number = request.number;
@@ -247,7 +314,67 @@ fn keep(call: &mut Call, request: &Request, bytes: &[u8], segment: &[u8])
     call.fed = bytes.len() as u32;
     call.limit = request.limit;
     call.log.count = 0;
+}
+
+/// A call begins in the caller's segment, which it keeps.
+fn begin_in_place(
+    plugin: &[u8],
+    call: &mut Call,
+    request: &Request,
+    bytes: &[u8],
+    segment: &mut [u8],
+    table: &mut [Word],
+) -> Answer
+    requires size { length segment.old ≡ 4096 }
+    requires few { length bytes.now ≤ 512 }
+    ensures { found_in result call.new segment.new table.new
+        ≡ call_says plugin.now request.now bytes.now segment.old table.old }
+{
+    keep(call, request, bytes);
     call.segment.copy_from_slice(segment);
+    prepare(plugin, request, bytes, segment);
+    run_on(plugin, call, first(request), request.limit, segment, table)
+}
+
+/// A call begins with a fresh segment, in bytes of its own: a drop leaves the caller's as it is.
+fn begin_apart(
+    plugin: &[u8],
+    call: &mut Call,
+    request: &Request,
+    bytes: &[u8],
+    segment: &mut [u8],
+    table: &mut [Word],
+) -> Answer
+    requires size { length segment.old ≡ 4096 }
+    requires few { length bytes.now ≤ 512 }
+    requires fresh { (request.now.fresh == 0) ≡ false }
+    ensures { found_in result call.new segment.new table.new
+        ≡ call_says plugin.now request.now bytes.now segment.old table.old }
+{
+    keep(call, request, bytes);
+    prepare(plugin, request, bytes, &mut call.segment);
+    run_apart(plugin, call, first(request), request.limit, segment, table)
+}
+
+/// A call begins that is asked for as it must be.
+fn begin_asked(
+    plugin: &[u8],
+    call: &mut Call,
+    request: &Request,
+    bytes: &[u8],
+    segment: &mut [u8],
+    table: &mut [Word],
+) -> Answer
+    requires size { length segment.old ≡ 4096 }
+    requires few { length bytes.now ≤ 512 }
+    ensures { found_in result call.new segment.new table.new
+        ≡ call_says plugin.now request.now bytes.now segment.old table.old }
+{
+    if request.fresh == 0 {
+        begin_in_place(plugin, call, request, bytes, segment, table)
+    } else {
+        begin_apart(plugin, call, request, bytes, segment, table)
+    }
 }
 
 /// Whether a call is asked for as it must be.
@@ -288,9 +415,7 @@ pub fn begin(
     if !is_call(request, bytes) {
         return plain_answer(MISUSED, 0, 0);
     }
-    keep(call, request, bytes, segment);
-    prepare(plugin, request, bytes, segment);
-    run_on(plugin, call, first(request), request.limit, segment, table)
+    begin_asked(plugin, call, request, bytes, segment, table)
 }
 
 /// Answers a call that waits: with a word (how is 0), which it finds in r0, or with a refusal (how is

@@ -75,7 +75,9 @@ pub const MISUSED: u32 = 33;
 pub struct KeyPair {
     /// 2 where both keys are given; else the first counts alone.
     pub count: u32,
+    /// The key of number 0.
     pub first: [u8; 32],
+    /// The key of number 1, which counts where `count` is 2.
     pub second: [u8; 32],
 }
 
@@ -83,6 +85,7 @@ pub struct KeyPair {
 #[repr(C)]
 #[derive(Clone, Copy)]
 pub struct Word {
+    /// What plug-ins read and change: any 32 bits.
     pub value: u32,
     /// The number of the call that changed it and hasn't ended; 0 where there is none.
     pub owner: u32,
@@ -94,17 +97,22 @@ pub struct Word {
 #[repr(C)]
 #[derive(Clone, Copy)]
 pub struct Record {
+    /// The place in the table, from 0.
     pub place: u32,
     /// 1 where the call changed it; else it read it for the first time.
     pub id: u32,
+    /// The value before.
     pub value: u32,
+    /// The owner before.
     pub owner: u32,
 }
 
 /// The records of a call, oldest first.
 #[repr(C)]
 pub struct Log {
+    /// How many records there are; above 64 it counts as 64.
     pub count: u32,
+    /// The records, of which the first `count` count.
     pub records: [Record; MOST_RECORDS],
 }
 
@@ -112,7 +120,9 @@ pub struct Log {
 #[repr(C)]
 #[derive(Clone, Copy)]
 pub struct Machine {
+    /// r0 to r15.
     pub regs: [u32; 16],
+    /// The number of the next instruction, from 0.
     pub pc: u32,
 }
 
@@ -121,18 +131,23 @@ pub struct Machine {
 pub struct Call {
     /// 1 while it waits for an answer.
     pub state: u32,
+    /// Its number, as the request had it.
     pub number: u32,
+    /// Its point, 0 to 15.
     pub point: u32,
-    /// How many bytes it was fed.
+    /// How many bytes it was fed, 0 to 512.
     pub fed: u32,
+    /// The most instructions from its beginning to its end.
     pub limit: u32,
-    /// How many instructions it may take yet.
+    /// How many instructions it may take yet, while it waits.
     pub left: u32,
-    /// The id that it called.
+    /// The id that it called, 2 to 15, while it waits.
     pub id: u32,
+    /// Registers and place, while it waits.
     pub machine: Machine,
+    /// What it changed and read of the table.
     pub log: Log,
-    /// The segment from before the call.
+    /// The segment from before the call, while it waits.
     pub segment: [u8; SEGMENT],
 }
 
@@ -145,13 +160,17 @@ pub struct Request {
     pub number: u32,
     /// The point, 0 to 15, which says what r0 of the answer means (docs/CALLS.md).
     pub point: u32,
-    /// The most instructions.
+    /// The most instructions; the call is dropped with `NO_STEPS` where it needs more.
     pub limit: u32,
     /// 0 where the call begins with the segment as it is; else with the plug-in's data and zeros.
     pub fresh: u32,
+    /// The first argument, any 32 bits, and so are the others.
     pub r0: u32,
+    /// The second argument.
     pub r1: u32,
+    /// The third argument.
     pub r2: u32,
+    /// The fourth argument.
     pub r3: u32,
 }
 
@@ -161,14 +180,20 @@ pub struct Request {
 pub struct Answer {
     /// `RETURNED`, `WAITING`, `MISUSED`, or the cause for which the call was dropped.
     pub kind: u32,
+    /// As the constant of the kind says; else 0.
     pub detail: u32,
-    /// How many instructions the call has taken.
+    /// How many instructions the call has taken since its beginning, its limit at most.
     pub steps: u32,
-    /// How many bytes the plug-in gave: they stand from place 2,048 of the segment on.
+    /// How many bytes the plug-in gave where it returned, 0 to 512: they stand from place 2,048 of
+    /// the segment on.
     pub given: u32,
+    /// Register 0 where the call returned or waits, else 0; and so are the others.
     pub r0: u32,
+    /// Register 1.
     pub r1: u32,
+    /// Register 2.
     pub r2: u32,
+    /// Register 3.
     pub r3: u32,
 }
 
@@ -201,8 +226,11 @@ pub(crate) enum Reply {
 /// a cause, with a detail.
 #[derive(Clone, Copy)]
 pub enum Stop {
+    /// It returned.
     Returns,
+    /// It waits for an answer to this id.
     Waits(u32),
+    /// It is dropped for a cause, with a detail.
     Drops(u32, u32),
 }
 

@@ -46,7 +46,10 @@ pub extern "C" fn vino_check(plugin: &[u8]) -> u32
     if vino_host::is_whole(plugin) { 0 } else { 16 }
 }
 
-/// Calls a plug-in, as `vino_host::begin` does; the kind of its answer is returned too.
+/// Calls a plug-in, as `vino_host::begin` does: for at most as many instructions as the request
+/// says, with at most 512 bytes fed. Gives the kind of the answer: `RETURNED`, `WAITING`, 1 to 31
+/// for the cause of a drop, which leaves segment and table as they were, or `MISUSED` where nothing
+/// was done.
 #[unsafe(no_mangle)]
 pub extern "C" fn vino_begin(
     plugin: &[u8],
@@ -77,7 +80,9 @@ pub extern "C" fn vino_begin(
     answer.kind
 }
 
-/// Answers a call that waits, as `vino_host::resume` does; the kind of its answer is returned too.
+/// Answers a call that waits, as `vino_host::resume` does: with a word (how is 0) or a refusal (how
+/// is 3 or 4). Gives the kind of the answer, as `vino_begin` does; `MISUSED` also where the call
+/// doesn't wait.
 #[unsafe(no_mangle)]
 pub extern "C" fn vino_resume(
     plugin: &[u8],
@@ -108,7 +113,8 @@ pub extern "C" fn vino_resume(
     answer.kind
 }
 
-/// Puts what the kind of an answer says in words into 64 bytes, with zeros behind.
+/// Puts what the kind of an answer says in words into 64 bytes: at most 63 bytes of ASCII, and
+/// zeros behind. A number that is no kind has a sentence too.
 #[unsafe(no_mangle)]
 pub extern "C" fn vino_sentence(kind: u32, text: &mut [u8; 64])
     ensures { text.new ≡ filled 64 (sentence kind) }
@@ -116,7 +122,8 @@ pub extern "C" fn vino_sentence(kind: u32, text: &mut [u8; 64])
     vino_host::put_sentence(kind, text);
 }
 
-/// Puts what `vino_load` answered in words into 64 bytes, with zeros behind.
+/// Puts what `vino_load` or `vino_check` answered in words into 64 bytes: at most 63 bytes of ASCII,
+/// and zeros behind. A number that is no answer has a sentence too.
 #[unsafe(no_mangle)]
 pub extern "C" fn vino_refusal_sentence(code: u32, text: &mut [u8; 64])
     ensures { text.new ≡ filled 64 (refusal_sentence code) }
