@@ -25,6 +25,9 @@ pub record Task : Type 0 where
   pub title : List ℕ
   pub gives : List (List ℕ)
   pub given : ℕ
+  pub score : List ℕ
+  pub most : Bool
+  pub scored : ℕ
   pub tests : List Test
   pub testing : Bool
   pub draft : Test
@@ -45,6 +48,9 @@ first_task = record {
   title = [];
   gives = [];
   given = 0;
+  score = [];
+  most = false;
+  scored = 0;
   tests = [];
   testing = false;
   draft = new_test [] 0 false 0;
@@ -81,6 +87,26 @@ giving n task words =
       | true ↦ refused n kind.BadGives
       | false ↦ Ok (record task { gives = task.gives ++ words; given = n })
     ]
+
+-- the figure by which submissions are ranked, and whether more of it is better: once
+abbrev pub ranked : ℕ → Task → (figure : List ℕ) → (most : Bool) → Result Task Refusal
+ranked n task figure most =
+    elim (task.testing || not (task.scored == 0)) [
+      | true ↦ refused n kind.BadScore
+      | false ↦ Ok (record task { score = task.score ++ figure; most = most; scored = n })
+    ]
+
+-- the same by the words behind `score`
+abbrev pub scoring : ℕ → Task → List (List ℕ) → Result Task Refusal
+scoring n task (way ∷ figure ∷ []) =
+    elim (same_bytes way (codes "least")) [
+      | true ↦ ranked n task figure false
+      | false ↦ elim (same_bytes way (codes "most")) [
+        | true ↦ ranked n task figure true
+        | false ↦ refused n kind.BadScore
+      ]
+    ]
+scoring n task _ = refused n kind.BadScore
 
 -- ---- the line that begins a test
 
@@ -166,15 +192,18 @@ by_first n task line first rest =
       | true ↦ titled n task rest
       | false ↦ elim (same_bytes first (codes "gives")) [
         | true ↦ giving n task rest
-        | false ↦ elim (same_bytes first (codes "test")) [
-          | true ↦ tested n (closed task) rest
-          | false ↦ elim (same_bytes first (codes "hint")) [
-            | true ↦ hinted n task rest
-            | false ↦ elim (same_bytes first (codes "disk")) [
-              | true ↦ refused n kind.DiskFile
-              | false ↦ elim (same_bytes first (codes "graft")) [
-                | true ↦ grafting (kept n task line)
-                | false ↦ kept n task line
+        | false ↦ elim (same_bytes first (codes "score")) [
+          | true ↦ scoring n task rest
+          | false ↦ elim (same_bytes first (codes "test")) [
+            | true ↦ tested n (closed task) rest
+            | false ↦ elim (same_bytes first (codes "hint")) [
+              | true ↦ hinted n task rest
+              | false ↦ elim (same_bytes first (codes "disk")) [
+                | true ↦ refused n kind.DiskFile
+                | false ↦ elim (same_bytes first (codes "graft")) [
+                  | true ↦ grafting (kept n task line)
+                  | false ↦ kept n task line
+                ]
               ]
             ]
           ]

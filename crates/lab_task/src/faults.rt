@@ -12,6 +12,9 @@ pub enum TaskKind {
     BadTitle,
     /// The line `gives` names no graft, stands twice, or behind the beginning of a test.
     BadGives,
+    /// Behind `score` there isn't `least` or `most` and a name, or it stands twice, or behind the
+    /// beginning of a test.
+    BadScore,
     /// Behind `test` there isn't a name, then points, then perhaps `hidden`.
     BadTest,
     /// The points of a test are missing, or no number up to 1,000.

@@ -78,6 +78,9 @@ impl Task {
             title: Vec::new(alloc),
             gives: Vec::new(alloc),
             given: 0,
+            score: Vec::new(alloc),
+            most: false,
+            scored: 0,
             tests: Vec::new(alloc),
             testing: false,
             draft: Test::none(alloc),
@@ -104,6 +107,27 @@ impl Task {
         ensures { result ≡ self.now.given }
     {
         self.given
+    }
+
+    /// The figure by which submissions are ranked; empty where no line says it.
+    pub fn score(&self) -> &[u8]
+        ensures { result.now ≡ self.now.score }
+    {
+        self.score.as_slice()
+    }
+
+    /// Whether more of that figure is better.
+    pub fn ranks_most(&self) -> bool
+        ensures { result ≡ self.now.most }
+    {
+        self.most
+    }
+
+    /// The line that says the figure, or 0.
+    pub fn scored(&self) -> usize
+        ensures { result ≡ self.now.scored }
+    {
+        self.scored
     }
 
     /// The tests, in their order.
@@ -164,6 +188,31 @@ impl Task {
         put_texts(alloc, &mut self.gives, words)?;
         self.given = n;
         Ok(())
+    }
+
+    /// The figure by which submissions are ranked.
+    fn set_figure(&mut self, n: usize, figure: &[u8], most: bool) -> Result<(), TaskFault>
+        ensures { StepsAs result self.new (spec.ranked n self.old figure.now most) }
+    {
+        if self.testing || self.scored != 0 {
+            return Err(TaskFault::At(n, TaskKind::BadScore));
+        }
+        append(&mut self.score, figure)?;
+        self.most = most;
+        self.scored = n;
+        Ok(())
+    }
+
+    /// The same by the words behind `score`.
+    fn set_score(&mut self, n: usize, words: &[&[u8]]) -> Result<(), TaskFault>
+        ensures { StepsAs result self.new (spec.scoring n self.old
+            (map (λ (w : _). w.now) words.now)) }
+    {
+        match words {
+            [way, figure] if *way == b"least".as_slice() => self.set_figure(n, figure, false),
+            [way, figure] if *way == b"most".as_slice() => self.set_figure(n, figure, true),
+            _ => Err(TaskFault::At(n, TaskKind::BadScore)),
+        }
     }
 
     /// The test that is open is done.
@@ -285,6 +334,8 @@ impl Task {
             self.set_title(n, rest)
         } else if first == b"gives".as_slice() {
             self.set_gives(alloc, n, rest)
+        } else if first == b"score".as_slice() {
+            self.set_score(n, rest)
         } else if first == b"test".as_slice() {
             self.next_test(alloc, n, rest)
         } else if first == b"hint".as_slice() {

@@ -44,6 +44,9 @@ pub struct Task {
     pub(crate) title: Vec<u8>,
     pub(crate) gives: Vec<Text>,
     pub(crate) given: usize,
+    pub(crate) score: Vec<u8>,
+    pub(crate) most: bool,
+    pub(crate) scored: usize,
     pub(crate) tests: Vec<Test>,
     pub(crate) testing: bool,
     pub(crate) draft: Test,
@@ -59,6 +62,9 @@ impl Model for Task {
       title = t.title.items;
       gives = t.gives.items;
       given = t.given;
+      score = t.score.items;
+      most = t.most;
+      scored = t.scored;
       tests = t.tests.items;
       testing = t.testing;
       draft = t.draft;

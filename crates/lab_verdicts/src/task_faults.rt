@@ -10,9 +10,14 @@ use text_words::append;
 /// What is wrong with a line of a task, and what is wanted.
 fn said_of(kind: TaskKind) -> &'static [u8] {
     match kind {
-        TaskKind::StrayLine => b"before the first test stand `title`, `gives` and remarks alone",
+        TaskKind::StrayLine => {
+            b"before the first test stand `title`, `gives`, `score` and remarks alone"
+        }
         TaskKind::BadTitle => b"the title stands once, before the first test: `title WORDS`",
         TaskKind::BadGives => b"the grafts stand once, before the first test: `gives NAME..`",
+        TaskKind::BadScore => {
+            b"the figure of a ranking stands once, before the first test: `score least FIGURE` or `score most FIGURE`"
+        }
         TaskKind::BadTest => {
             b"a test begins with `test NAME POINTS` or `test NAME POINTS hidden`; its name has letters a to z, digits and `-`, up to 32 bytes"
         }
