@@ -180,3 +180,4 @@ codes-are-found (code.Status status.WriteFailed) = refl
 codes-are-found (code.Status status.NoMemory) = refl
 codes-are-found (code.Status status.ImageRefused) = refl
 codes-are-found (code.Status status.TooLong) = refl
+codes-are-found (code.Status status.Differs) = refl

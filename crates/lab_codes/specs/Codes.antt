@@ -90,7 +90,7 @@ rewriter_text rewriter.Call = codes "Call"
 rewriter_text rewriter.End = codes "End"
 rewriter_text rewriter.TooLarge = codes "TooLarge"
 
--- refused input of `box`, `check`, `reseal` and `dis`
+-- refused input of `box`, `check`, `reseal`, `dis` and `audit`
 abbrev pub input_text : InputCode → List ℕ
 input_text input.GoesOn = codes "input S1"
 input_text input.NotHex = codes "input S2"
@@ -106,6 +106,7 @@ status_text status.WriteFailed = codes "status 4"
 status_text status.NoMemory = codes "status 5"
 status_text status.ImageRefused = codes "status 6"
 status_text status.TooLong = codes "status 7"
+status_text status.Differs = codes "status 8"
 
 -- the text of a code, as it is written
 abbrev pub code_text : Code → List ℕ

@@ -87,7 +87,7 @@ pub enum RewriterCode {
     TooLarge,
 }
 
-/// Refused input of `box`, `check`, `reseal` and `dis`, in the order of the codes.
+/// Refused input of `box`, `check`, `reseal`, `dis` and `audit`, in the order of the codes.
 #[derive(Clone, Copy, Debug, PartialEq, Eq)]
 pub enum InputCode {
     GoesOn,
@@ -106,6 +106,7 @@ pub enum StatusCode {
     NoMemory,
     ImageRefused,
     TooLong,
+    Differs,
 }
 
 /// A code or a word of a refusal, or an exit status.
@@ -123,7 +124,7 @@ pub enum Code {
 }
 
 /// All codes, in the order in which they are listed.
-pub const CODES: [Code; 78] = [
+pub const CODES: [Code; 79] = [
     Code::Script(ScriptCode::BadWord),
     Code::Script(ScriptCode::BadNumber),
     Code::Script(ScriptCode::TooLong),
@@ -202,6 +203,7 @@ pub const CODES: [Code; 78] = [
     Code::Status(StatusCode::NoMemory),
     Code::Status(StatusCode::ImageRefused),
     Code::Status(StatusCode::TooLong),
+    Code::Status(StatusCode::Differs),
 ];
 
 /// The text of a code: refused lines of a script.
@@ -327,7 +329,7 @@ fn rewriter_text(code: RewriterCode) -> &'static [u8]
     }
 }
 
-/// The text of a code: refused input of `box`, `check`, `reseal` and `dis`.
+/// The text of a code: refused input of `box`, `check`, `reseal`, `dis` and `audit`.
 fn input_text(code: InputCode) -> &'static [u8]
     ensures { result.now ≡ spec.input_text code }
 {
@@ -351,6 +353,7 @@ fn status_text(code: StatusCode) -> &'static [u8]
         StatusCode::NoMemory => b"status 5".as_slice(),
         StatusCode::ImageRefused => b"status 6".as_slice(),
         StatusCode::TooLong => b"status 7".as_slice(),
+        StatusCode::Differs => b"status 8".as_slice(),
     }
 }
 

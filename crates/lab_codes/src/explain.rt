@@ -10,12 +10,12 @@ use script_model::NoMemory;
 use std::alloc::Global;
 use text_words::append;
 
-/// What stands at the beginning of the page of all codes.
+/// The head of the page of all codes.
 const PAGE_HEAD: &str = "# The codes in words
 
-Every code and word by which the program refuses something or tells of a dropped graft, and its \
-exit statuses: what it means, the usual cause, where it is described, and a file that shows it. \
-`lab explain CODE` says the same of one; this page is what `lab explain --all` writes.
+Every code and word with which the program refuses something or reports a dropped graft, and its \
+exit statuses: what it means, the usual cause, the page that describes it, and a file that shows it. \
+`lab explain CODE` prints one of them; `lab explain --all` prints this page.
 ";
 
 #[tactic(auto, unfolding(crate::specs::Rows::part))]
@@ -59,7 +59,7 @@ fn title_of(code: Code) -> &'static str {
         Code::Assembler(_) => "Refused lines of assembler text",
         Code::Language(_) => "Refused lines of the graft language",
         Code::Rewriter(_) => "Raw code that can't be boxed",
-        Code::Input(_) => "Refused input of `box`, `check`, `reseal` and `dis`",
+        Code::Input(_) => "Refused input of `box`, `check`, `reseal`, `dis` and `audit`",
         Code::Status(_) => "How the program ends",
     }
 }
