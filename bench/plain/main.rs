@@ -32,7 +32,7 @@ const MOST_BYTES: usize = 16_777_216;
 /// How many bytes are read at once.
 const PIECE: usize = 65_536;
 
-const USAGE: &str = "usage: vino run KEYS [PATH] | box KEYS [keep] | check KEYS | reseal KEYS | asm | dis | lang | demo N\n";
+const USAGE: &str = "usage: vino run KEYS [PATH] | box KEYS [keep] | check KEYS | reseal KEYS | asm | dis | lang | audit KEYS | demo N\n";
 
 /// The status with which the program ends. Where nothing is wrong it is 0.
 struct Status(u8);
