@@ -11,10 +11,10 @@ callables =
     ∷ codes "tune_get" ∷ codes "tune_set"
     ∷ codes "take_lock" ∷ codes "ask_ra" ∷ codes "ask_victim" ∷ codes "ask_sched" ∷ []
 
--- the name of a callable
+-- the name with this id
 abbrev pub callable_name : ℕ → Option (List ℕ)
 callable_name id = slice_get callables id
 
--- the id of a name of the callable list
+-- the id of a name in the callable list
 abbrev pub callable_id : List ℕ → Option ℕ
 callable_id name = position (same_bytes name) callables

@@ -1,10 +1,10 @@
--- What is written of an image that is loaded or refused.
+-- What is written about an image that is loaded or refused.
 use Rattle.std.specs.Prelude.{ℕ, List, ◌++◌, codes, length}
 use Rattle.kernel_data.specs.Bytes.{spaced}
 use Rattle.kernel_data.specs.World.{Image}
 use Rattle.graft_code.specs.Images.{LoadFault}
 
--- the code of a refused image, and its place
+-- the L code of a refused image, and the place of the fault if it has one
 abbrev pub load_fault_text : LoadFault → List ℕ
 load_fault_text LoadFault.Length = codes "L1"
 load_fault_text LoadFault.Magic = codes "L2"

@@ -20,8 +20,8 @@ pub struct Fields {
     pub imm: bool,
 }
 
-/// Why eight bytes are no instruction (docs/FORMATS.md): the first byte is no operation's number,
-/// or a field that is named is no register, or one that isn't named isn't zero.
+/// Why eight bytes aren't an instruction (docs/FORMATS.md): the first byte isn't the number of an
+/// operation, or a field that is named isn't a register, or one that isn't named isn't zero.
 #[derive(Clone, Copy, PartialEq, Eq, Debug)]
 pub enum IsaFault {
     BadOp,

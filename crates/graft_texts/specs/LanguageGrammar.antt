@@ -1,5 +1,5 @@
 -- The grammar of the graft language: programs, how they are spelled, and which tokens may come
--- next. docs/LANGUAGE.md says the rules.
+-- next. docs/LANGUAGE.md gives the rules.
 use Rattle.std.specs.Prelude.{ℕ, ◌-◌, Bool, true, false, cond, not, List, [], ◌∷◌, Result, Ok, Err}
 use Rattle.graft_texts.specs.declared.language.LangKind.{LangKind}
 use Rattle.graft_texts.specs.declared.language.LangKind.TheVariants.{NoProgram}
@@ -22,21 +22,21 @@ pub data Expression : Type 0 where
   Named : (name : List ℕ) → Expression
   Binary : Expression → Operator → Expression → Expression
 
--- statements: nothing more, or a statement and those behind it
+-- statements: nothing more, or a statement and those after it
 pub data Program : Type 0 where
   Done : Program
   Assigns : (name : List ℕ) → Expression → Program → Program
   Calls : (name : List ℕ) → (id : ℕ) → (arguments : List Expression) → Program → Program
-  -- a condition, the statements where it holds, and what comes behind
+  -- a condition, the statements if it holds, and those after them
   When : Expression → Program → Program → Program
-  -- a condition, the statements where it holds, those where it doesn't, and what comes behind
+  -- a condition, the statements if it holds, the statements if it doesn't, and those after them
   Either : Expression → Program → Program → Program → Program
-  -- a condition, the statements while it holds, and what comes behind
+  -- a condition, the statements while it holds, and those after them
   Loops : Expression → Program → Program → Program
   Traps : (code : ℕ) → Program → Program
   Answers : Expression → Expression → Program → Program
 
--- ---- how they are spelled: their tokens, and then those that are behind
+-- ---- how they are spelled: their tokens, and then those that follow
 
 -- the tokens of an expression
 abbrev pub spelled_expression : Expression → List Token → List Token
@@ -46,7 +46,7 @@ spelled_expression (Binary a op b) behind =
     Mark OpenParenthesis ∷ spelled_expression a
     (Infix op ∷ spelled_expression b (Mark CloseParenthesis ∷ behind))
 
--- more arguments of a call, each behind a comma, and its end
+-- more arguments of a call, each after a comma, and its end
 abbrev pub spelled_more : List Expression → List Token → List Token
 spelled_more [] behind = Mark CloseParenthesis ∷ behind
 spelled_more (e ∷ es) behind = Mark Comma ∷ spelled_expression e (spelled_more es behind)
@@ -86,7 +86,7 @@ spelled_statements (Answers e f p) behind =
 abbrev pub spelled : Program → List Token
 spelled p = spelled_statements p []
 
--- ---- which tokens may come next: goals in the order in which they are to be met
+-- ---- which tokens may come next: goals, in the order in which they must be met
 
 -- a statement that begins with a symbol, or the end of a block
 abbrev pub follow_mark : (in_block after_if : Bool) → List Goal → Symbol →
@@ -146,12 +146,12 @@ abbrev pub follow_constant : List Goal → Token → Result (List Goal) LangKind
 follow_constant below (Number n) = Ok below
 follow_constant below _ = Err NoProgram
 
--- this symbol and no other, and then these goals
+-- only this symbol, and then these goals
 abbrev pub follow_awaited : Symbol → List Goal → Token → Result (List Goal) LangKind
 follow_awaited s next (Mark t) = cond (same_symbol s t) (Ok next) (Err NoProgram)
 follow_awaited s next _ = Err NoProgram
 
--- a goal is met by what begins with this token; the goals that are left
+-- the goals that are left when a token begins what meets the first goal
 abbrev pub follow_goal : Goal → List Goal → Token → Result (List Goal) LangKind
 follow_goal (Statements in_block after_if) below token =
     follow_statement in_block after_if below token
@@ -167,22 +167,22 @@ follow_goal EndOfAssignment below token = follow_awaited Semicolon below token
 follow_goal Constant below token = follow_constant below token
 follow_goal (Awaits s) below token = follow_awaited s below token
 
--- the goals behind a token, unless no program goes on with it
+-- the goals after a token, unless no program goes on with it
 abbrev pub follow : List Goal → Token → Result (List Goal) LangKind
 follow [] token = Err NoProgram
 follow (goal ∷ below) token = follow_goal goal below token
 
--- the goals behind tokens
+-- the goals after these tokens, unless no program goes on with one of them
 abbrev pub follow_all : List Goal → List Token → Result (List Goal) LangKind
 follow_all goals [] = Ok goals
 follow_all goals (token ∷ tokens) = elim (follow goals token)
     [ Err kind ↦ Err kind | Ok next ↦ follow_all next tokens ]
 
--- a whole program is wanted
+-- the goals before the first token: a whole program
 abbrev pub first_goals : List Goal
 first_goals = Statements false false ∷ []
 
--- a program may end here: no statement is begun, and no block is open
+-- a program may end here: no statement has begun, and no block is open
 abbrev pub is_met : List Goal → Bool
 is_met [] = true
 is_met (Statements in_block after_if ∷ below) = not in_block

@@ -12,12 +12,13 @@ use Rattle.graft_texts.specs.LanguageReading.{Syntax, read}
 use Rattle.graft_texts.specs.LanguageMeaning.{Program, End, Answered, Trapped, DividedByZero, Asks, Going, State}
 use Rattle.graft_texts.specs.LanguageMeaning.{says, numbered}
 
--- raw code over a segment, with these arguments and answers, for so many instructions
+-- a run of raw code over a segment, with these arguments and answers, for at most this many
+-- instructions
 abbrev pub fed : List Instr → (segment : ℕ → ℕ) → (arguments : List ℕ) → (answers : List (ℕ × ℕ)) →
     ℕ → CodeRun
 fed code segment arguments answers n = raw_run code n (first_run 262144 segment arguments answers)
 
--- how such a run has ended, named as the end of a program; code that goes astray has no such end
+-- how a run of code ended, as the end of a program; code that goes astray has none
 abbrev pub end_by : CodeRun → Option Halt → Option End
 end_by r None = Some Going
 end_by r (Some (Unanswered id)) =
@@ -32,11 +33,11 @@ end_by r (Some AtDivision) = Some DividedByZero
 end_by r (Some (AtTrap code)) = Some (Trapped code)
 end_by r (Some Astray) = None
 
--- the end of a run, if it is one of a program
+-- the end of a run, if a program can end like this
 abbrev pub end_of : CodeRun → Option End
 end_of r = end_by r r.ended
 
--- what a program says of these arguments
+-- what a program does with these arguments and answers, within this many turns of loops
 abbrev pub said : Program → (arguments : List ℕ) → (answers : List (ℕ × ℕ)) → (turns : ℕ) → State
 said p arguments answers turns = says p (λ i. slice_index arguments i) answers turns
 
@@ -44,15 +45,15 @@ said p arguments answers turns = says p (λ i. slice_index arguments i) answers 
 abbrev pub AreArguments : List ℕ → Type 0
 AreArguments arguments = (i : ℕ) → slice_index arguments i < 2 ^ 32
 
--- answers that are words
+-- the answers are words
 abbrev pub AreWords : List (ℕ × ℕ) → Type 0
 AreWords [] = ⊤
 AreWords (pair ∷ pairs) = (pair.0 < 2 ^ 32) × (pair.1 < 2 ^ 32) × AreWords pairs
 
--- For each segment, arguments and answers: where the program ends within n turns of loops, the code
--- ends within (n + 1) * N instructions, N being its length, with the same calls and the same end;
--- and where the code ends within n instructions, the program ends within n turns, with the same
--- calls and the same end. So where either goes on for every n, both do.
+-- For each segment, arguments and answers: if the program ends within n turns of loops, the code,
+-- of N instructions, ends within (n + 1) * N instructions, with the same calls and the same end;
+-- and if the code ends within n instructions, the program ends within n turns, with the same calls
+-- and the same end. So if either goes on for every n, both do.
 pub record Behaves (p : Program) (code : List Instr) : Type 0 where
   pub forth : (segment : ℕ → ℕ) (arguments : List ℕ) (answers : List (ℕ × ℕ)) (n : ℕ) (end : End)
       → AreArguments arguments → AreWords answers → end ≢ Going →
@@ -66,8 +67,8 @@ pub record Behaves (p : Program) (code : List Instr) : Type 0 where
       → ((said p arguments answers n).ended ≡ Some end)
       × ((said p arguments answers n).calls ≡ (fed code segment arguments answers n).calls)
 
--- The text is accepted, and spells a program. The code does what each program says that is spelled
--- so. The rewriter takes the code, and there is no data.
+-- The text is accepted, and spells a program. The code does what every program with this spelling
+-- says. The rewriter accepts the code, and there is no data.
 pub record IsCompiled (text : List ℕ) (image : Image) : Type 0 where
   pub syntax : Syntax
   pub is_read : read text ≡ Ok syntax

@@ -18,7 +18,7 @@ pub data Expression : Type 0 where
   Variable : (i : ℕ) → Expression
   Binary : Expression → Operator → Expression → Expression
 
--- statements, as of the grammar: nothing more, or a statement and those behind it
+-- statements, as in the grammar: nothing more, or a statement and those after it
 pub data Program : Type 0 where
   Done : Program
   Assigns : (i : ℕ) → Expression → Program → Program
@@ -56,7 +56,7 @@ numbered names (spelled.Answers e f p) =
 
 -- ---- values
 
--- what an operator makes of two values; nothing where it divides by zero
+-- what an operator makes of two values; nothing if it divides by zero
 abbrev pub applied : Operator → ℕ → ℕ → Option ℕ
 applied Plus a b = Some (word (a + b))
 applied Minus a b = Some (word (a + 2 ^ 32 - b))
@@ -71,13 +71,13 @@ applied ShiftRight a b = Some (a / 2 ^ (b % 32))
 applied Less a b = Some (cond (nat_lt a b) 1 0)
 applied Equal a b = Some (cond (a == b) 1 0)
 
--- what an operator makes of two values, if both are there
+-- what an operator makes of two values, if there are both
 abbrev pub both : Operator → Option ℕ → Option ℕ → Option ℕ
 both op None b = None
 both op (Some a) None = None
 both op (Some a) (Some b) = applied op a b
 
--- the value where variables have these values, the left side first
+-- the value of an expression if the variables have these values; the left side comes first
 abbrev pub value : (cells : ℕ → ℕ) → Expression → Option ℕ
 value cells (Number n) = Some n
 value cells (Variable i) = Some (cells i)
@@ -89,15 +89,15 @@ value_before None xs = None
 value_before (Some x) None = None
 value_before (Some x) (Some xs) = Some (x ∷ xs)
 
--- the values of arguments, the first one first
+-- the values of arguments, in their order
 abbrev pub values : (cells : ℕ → ℕ) → List Expression → Option (List ℕ)
 values cells [] = Some []
 values cells (e ∷ es) = value_before (value cells e) (values cells es)
 
 -- ---- what a program does
 
--- how a program ends: with an answer, a trap, a division by zero, at a call for which no answer is
--- left, or not within the turns
+-- how a program ends: with an answer, with a trap, with a division by zero, at a call for which no
+-- answer is left, or not within the turns
 pub data End : Type 0 where
   Answered : (r0 r1 : ℕ) → End
   Trapped : (code : ℕ) → End
@@ -119,7 +119,7 @@ pub record State : Type 0 where
   -- what ended it, if it has ended
   pub ended : Option End
 
--- a state that has this end
+-- a state with this end
 abbrev pub ends : State → End → State
 ends s end = record s { ended = Some end }
 
@@ -128,14 +128,14 @@ abbrev pub assigns : ℕ → State → Option ℕ → State
 assigns i s None = ends s DividedByZero
 assigns i s (Some x) = record s { cells = at i x s.cells }
 
--- a call with these arguments, and zeros for those that the callable hasn't
+-- a call with these arguments, and zeros for those that the callable doesn't have
 abbrev pub made_call : (id : ℕ) → List ℕ → MadeCall
 made_call id [] = record { id = id; r0 = 0; r1 = 0; r2 = 0 }
 made_call id (x ∷ []) = record { id = id; r0 = x; r1 = 0; r2 = 0 }
 made_call id (x ∷ y ∷ []) = record { id = id; r0 = x; r1 = y; r2 = 0 }
 made_call id (x ∷ y ∷ z ∷ xs) = record { id = id; r0 = x; r1 = y; r2 = z }
 
--- a call takes the next pair of answers, the first of which is its value
+-- a call takes the next pair of answers; the first of the pair becomes the variable's value
 abbrev pub answers_call : (i : ℕ) → MadeCall → State → List (ℕ × ℕ) → State
 answers_call i call s [] = ends s (Asks call)
 answers_call i call s (pair ∷ pairs) =
@@ -152,7 +152,7 @@ answers s None y = ends s DividedByZero
 answers s (Some x) None = ends s DividedByZero
 answers s (Some x) (Some y) = ends s (Answered x y)
 
--- what is done where a condition has this value
+-- what is done if a condition has this value
 abbrev pub chooses : (then_does else_does : State → State) → State → Option ℕ → State
 chooses then_does else_does s None = ends s DividedByZero
 chooses then_does else_does s (Some zero) = else_does s
@@ -163,7 +163,7 @@ abbrev pub takes_turn : (State → State) → State → ℕ → State
 takes_turn turn s zero = ends s Going
 takes_turn turn s (suc n) = turn (record s { turns = n })
 
--- a loop of at most so many turns; a state that has ended stays as it is
+-- a loop of at most this many turns; a state that has ended stays as it is
 abbrev pub loops : (condition : (ℕ → ℕ) → Option ℕ) → (body : State → State) → (most : ℕ) → State →
     State
 loops condition body zero s =
@@ -201,11 +201,12 @@ does (Traps code p) s = elim s.ended [ Some end ↦ s | None ↦ ends s (Trapped
 does (Answers e f p) s =
     elim s.ended [ Some end ↦ s | None ↦ answers s (value s.cells e) (value s.cells f) ]
 
--- at the end of the text the first two arguments are the answer
+-- the state at the end of the text: the first two arguments are the answer, unless the program has
+-- already ended
 abbrev pub at_end : State → State
 at_end s = elim s.ended [ Some end ↦ s | None ↦ ends s (Answered (s.cells 0) (s.cells 1)) ]
 
--- variables begin at 0, but for the arguments
+-- the state before the first statement: variables are 0, except the arguments
 abbrev pub first_state : (arguments : ℕ → ℕ) → List (ℕ × ℕ) → (turns : ℕ) → State
 first_state arguments pairs turns =
     record {
@@ -216,6 +217,6 @@ first_state arguments pairs turns =
       ended = None;
     }
 
--- what a program says of these arguments and answers with so many turns of loops
+-- what a program does with these arguments and answers, within this many turns of loops
 abbrev pub says : Program → (arguments : ℕ → ℕ) → List (ℕ × ℕ) → (turns : ℕ) → State
 says p arguments pairs turns = at_end (does p (first_state arguments pairs turns))

@@ -65,27 +65,28 @@ operator_of word = at_place (position (same_bytes word) operator_names) operator
 abbrev pub variable_of : List ℕ → Option Token
 variable_of word = cond (is_label word) (Some (Variable word)) None
 
--- a number below 2^32 in up to 10 digits, or else a variable
+-- a number below 2^32 in up to 10 digits, otherwise a variable
 abbrev pub by_number : Option ℕ → List ℕ → Option Token
 by_number (Some n) word = Some (Number n)
 by_number None word = variable_of word
 
--- a callable, or else a number or a variable
+-- a callable, otherwise a number or a variable
 abbrev pub by_callable : Option ℕ → List ℕ → Option Token
 by_callable (Some id) word = Some (Callable id)
 by_callable None word = by_number (number_of word) word
 
--- an operator, or else a callable, a number or a variable
+-- an operator, otherwise a callable, a number or a variable
 abbrev pub by_operator : Option Operator → List ℕ → Option Token
 by_operator (Some op) word = Some (Infix op)
 by_operator None word = by_callable (callable_id word) word
 
--- a word that stands for itself, or else what another token is
+-- a word that stands for itself, otherwise another token
 abbrev pub by_symbol : Option Symbol → List ℕ → Option Token
 by_symbol (Some s) word = Some (Mark s)
 by_symbol None word = by_operator (operator_of word) word
 
--- the token that a word is: a symbol, else an operator, a callable, a number, a variable, or none
+-- the token that a word is: a symbol, otherwise an operator, a callable, a number, a variable, or
+-- none
 abbrev pub token_of : List ℕ → Option Token
 token_of word = by_symbol (symbol_of word) word
 
@@ -97,7 +98,7 @@ arities = 1 ∷ 2 ∷ 0 ∷ 1 ∷ 1 ∷ 2 ∷ 0 ∷ 1 ∷ 1 ∷ 2 ∷ 2 ∷ 3 �
 abbrev pub arguments_of : ℕ → ℕ
 arguments_of id = slice_index arities id
 
--- the number of a symbol, by which two are compared
+-- the number of a symbol; two symbols are compared by it
 abbrev pub symbol_number : Symbol → ℕ
 symbol_number If = 0
 symbol_number Else = 1
@@ -112,6 +113,6 @@ symbol_number OpenParenthesis = 9
 symbol_number CloseParenthesis = 10
 symbol_number Comma = 11
 
--- two symbols are one
+-- two symbols are the same
 abbrev pub same_symbol : Symbol → Symbol → Bool
 same_symbol s t = symbol_number s == symbol_number t

@@ -48,7 +48,7 @@ pub enum LangKind {
 /// What must come next in a text.
 #[derive(Clone, Copy)]
 pub enum Goal {
-    /// More statements, or the end: of a block, or of the text. The first is whether they stand in
+    /// More statements, or the end: of a block, or of the text. The first says whether they are in
     /// a block, the second whether an `if` has just ended.
     Statements(bool, bool),
     /// Statements in braces.
@@ -58,7 +58,7 @@ pub enum Goal {
     InfixOperator,
     /// An expression, or a call.
     RightSide,
-    /// An argument, or the end of the call; so many arguments are left.
+    /// An argument, or the end of the call. The number says how many arguments are left.
     FirstArgument(u32),
     NextArgument(u32),
     /// A comma, or the end of the call.

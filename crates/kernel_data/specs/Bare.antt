@@ -1,4 +1,4 @@
--- Calls, events and notes without their bytes, and the bytes beside them.
+-- Calls, events and notes without their bytes, and the bytes next to them.
 use Rattle.std.specs.Prelude.{ℕ, List, [], ◌∷◌, take, drop}
 use Rattle.kernel_data.specs.declared.BareCall.{BareCall}
 use Rattle.kernel_data.specs.declared.BareCall.TheVariants as bare
@@ -64,7 +64,7 @@ abbrev pub given_count : BareNote → ℕ
 given_count (bare_note.Gave n count) = count
 given_count _ = 0
 
--- notes with the bytes that they gave, one behind the other
+-- the notes with the bytes that they gave; one list holds the bytes of all, one after the other
 abbrev pub notes_with : List BareNote → (bytes : List ℕ) → List Note
 notes_with [] bytes = []
 notes_with (note ∷ notes) bytes =

@@ -1,5 +1,5 @@
--- The directory in block 0 of a disk, and the sample disk. Block 0 is read once, at boot. What it
--- gives is a list of 16 entries, of which some are usable.
+-- The directory in block 0 of a disk, and the sample disk. Block 0 is read once, at boot. It gives
+-- a list of 16 entries, some of which are usable.
 use Rattle.std.specs.Prelude.{ℕ, zero, suc, ◌+◌, ◌-◌, ◌*◌, ◌%◌, ◌==◌, Bool, true, false, cond, not}
 use Rattle.std.specs.Prelude.{◌&&◌, nat_le, List, [], ◌∷◌, ◌++◌, length, slice_range, replicate}
 use Rattle.std.specs.Prelude.{take_while, map, filter, codes, Option, None, Some}
@@ -13,7 +13,7 @@ use Rattle.kernel_data.specs.Bytes.{word_at, word_bytes, is_name_byte}
 abbrev pub entry_bytes : List ℕ → ℕ → List ℕ
 entry_bytes block i = slice_range block (32 * i) (32 * i + 32)
 
--- the name of an entry, as far as its bytes are bytes of a name
+-- the name of an entry: of its first 16 bytes, those before the first that isn't a byte of a name
 abbrev pub entry_name : List ℕ → List ℕ
 entry_name entry = take_while is_name_byte (slice_range entry 0 16)
 
@@ -31,22 +31,22 @@ abbrev pub has_name : List ℕ → Option FileRow → Bool
 has_name name None = false
 has_name name (Some r) = same_bytes r.name name
 
--- there is a name, with zeros alone after it
+-- an entry has a name, with only zeros after it
 abbrev pub is_padded : List ℕ → FileRow → Bool
 is_padded entry r = nat_le 1 (length r.name)
     && list_all (λ b. b == 0) (slice_range entry (length r.name) 16)
 
--- the blocks of a file lie on a disk of this size, behind block 0, and have room for its length
+-- the blocks of a file are on a disk of this size, after block 0, and have room for its length
 abbrev pub lies_on_disk : ℕ → FileRow → Bool
 lies_on_disk size r = nat_le 1 r.start && nat_le (r.start + r.blocks) size
     && nat_le r.length (512 * r.blocks)
 
--- a row is that of a usable entry of a disk of this size, where these entries stand before it
+-- an entry with this row is usable on a disk of this size, if these entries come before it
 unfoldable pub is_usable : ℕ → List ℕ → FileRow → List (Option FileRow) → Bool
 is_usable size entry r earlier = is_padded entry r && lies_on_disk size r
     && not (list_any (has_name r.name) earlier)
 
--- one entry more
+-- these entries and one more: its row if it is usable, otherwise nothing
 abbrev pub with_entry : ℕ → List ℕ → FileRow → List (Option FileRow) → List (Option FileRow)
 with_entry size entry r earlier =
     earlier ++ cond (is_usable size entry r earlier) (Some r) None ∷ []
@@ -57,7 +57,7 @@ entries size block zero = []
 entries size block (suc n) =
     with_entry size (entry_bytes block n) (entry_row (entry_bytes block n)) (entries size block n)
 
--- the 16 entries of block 0, nothing where an entry isn't usable
+-- the 16 entries of block 0, with nothing for an entry that isn't usable
 abbrev pub directory_of : ℕ → List ℕ → List (Option FileRow)
 directory_of size block = entries size block 16
 
@@ -70,7 +70,7 @@ pub record Disk : Type 0 where
   pub size : ℕ
   pub block : ℕ → List ℕ
 
--- the bytes of an entry
+-- the bytes of an entry with this name, start, number of blocks and length
 abbrev pub sample_entry : List ℕ → ℕ → ℕ → ℕ → List ℕ
 sample_entry name start blocks length_in_bytes =
     name ++ replicate (16 - length name) 0 ++ word_bytes start ++ word_bytes blocks
@@ -83,7 +83,7 @@ sample_directory =
     ++ sample_entry (codes "gamma") 49 3 1100
     ++ replicate 416 0
 
--- byte i of block b of the sample disk, for b of at least 1
+-- byte i of block b of the sample disk, if b is at least 1
 abbrev pub sample_byte : ℕ → ℕ → ℕ
 sample_byte b i = (31 * b + i) % 256
 
@@ -94,7 +94,7 @@ sample_block b = elim (b == 0) [
   | false ↦ map (sample_byte b) (range_with_len 0 512)
 ]
 
--- the sample disk, with three files on 64 blocks
+-- the sample disk, which has 64 blocks and three files
 abbrev pub sample_disk : Disk
 sample_disk = record { size = 64; block = sample_block }
 

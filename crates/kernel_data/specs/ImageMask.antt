@@ -2,7 +2,7 @@
 use Rattle.std.specs.Prelude.{◌≡◌, ℕ, ◌/◌, ◌%◌, ◌^◌, ◌==◌, ◌<◌, Bool, is_some}
 use Rattle.kernel_data.specs.World.{ImageTable}
 
--- the bit of this number is set
+-- bit k of this number is set
 abbrev pub has_bit : ℕ → ℕ → Bool
 has_bit k bits = (bits / 2 ^ k) % 2 == 1
 

@@ -1,7 +1,7 @@
--- The objects of the kernel's state, and what it is to change one. A state is one value for each
--- object. It has two parts by type: *accounts* (accounts and grafts), which a drop leaves as they
--- are, and *things* (all else), which a drop puts back. Values that come by number are functions of
--- the number, so that a change is a change at one place.
+-- The objects of the kernel's state, and what it means to change one. A state has one value for
+-- each object. Its type has two parts: *accounts* (accounts and grafts), which a drop leaves as
+-- they are, and *things* (all other objects), which a drop restores. Values that are indexed by
+-- numbers are functions of the number, so a change is a change at one place.
 use Rattle.std.specs.Prelude.{◌≡◌, ℕ, Bool, true, false, cond, ◌&&◌, ◌==◌, List, Option, ⊤}
 use Rattle.kernel_data.specs.declared.Object.{Object}
 use Rattle.kernel_data.specs.declared.Object.TheVariants.{Graft, Acct, Cell, OpenFile, Queue, Cache, Lock, Pol}
@@ -37,7 +37,7 @@ pub record CacheValue : Type 0 where
   pub frame : ℕ → Option FrameValue
   pub lru : List ℕ
 
--- the chosen policy of a kind, and the parameter of each
+-- the chosen policy of a kind, and the parameter of each policy
 pub record PolValue : Type 0 where
   pub chosen : ℕ
   pub param : ℕ → ℕ
@@ -49,7 +49,7 @@ pub record Accounts : Type 0 where
   pub graft : ℕ → ℕ → Option GraftValue
   pub acct : ℕ → AcctValue
 
--- all other objects: what a drop puts back
+-- all other objects: what a drop restores
 pub record Things : Type 0 where
   pub cell : ℕ → ℕ → ℕ
   pub file : ℕ → ℕ → Option OpenRow
@@ -57,11 +57,11 @@ pub record Things : Type 0 where
   pub cache : CacheValue
   pub lock : ℕ → Option ℕ
   pub pol : ℕ → PolValue
-  -- the bytes that were kept for the graft at each point since it was installed, by place, if there
-  -- were any: they count where its image keeps its segment
+  -- for each point, the bytes by place that were kept for its graft since it was installed, if any
+  -- were; they count if its image keeps segments
   pub segment : ℕ → ℕ → Option (ℕ → ℕ)
   -- the handlers of the event points, each a process and a point, in the order in which they were
-  -- put last
+  -- last installed
   pub handlers : List (ℕ × ℕ)
 
 -- a state: one value for each object
@@ -79,15 +79,15 @@ with_things w s = record s { things = w }
 
 -- ---- one changed place
 
--- `at i v f` is the function f changed at i, where it is v now.
+-- `at i v f` is the function f with the value v at i.
 abbrev pub at : {A : Type 0} → ℕ → A → (ℕ → A) → ℕ → A
 at i v f j = cond (j == i) v (f j)
 
--- `at2 i k v f` is f changed at the pair i, k, where it is v now.
+-- `at2 i k v f` is f with the value v at the pair i, k.
 abbrev pub at2 : {A : Type 0} → ℕ → ℕ → A → (ℕ → ℕ → A) → ℕ → ℕ → A
 at2 i k v f j l = cond (j == i && l == k) v (f j l)
 
--- two kinds of amount are one
+-- two kinds of amount are the same
 abbrev pub same_kind : Kind → Kind → Bool
 same_kind Steps Steps = true
 same_kind Records Records = true
@@ -98,7 +98,7 @@ same_kind _ _ = false
 abbrev pub at_kind : Kind → ℕ → (Kind → ℕ) → Kind → ℕ
 at_kind k v f j = cond (same_kind j k) v (f j)
 
--- two objects are one
+-- two objects are the same
 unfoldable pub same_object : Object → Object → Bool
 same_object (Graft q pt) (Graft r pu) = q == r && pt == pu
 same_object (Acct q) (Acct r) = q == r
@@ -124,7 +124,7 @@ SameAt Cache s t = s.things.cache ≡ t.things.cache
 SameAt (Lock u) s t = s.things.lock u ≡ t.things.lock u
 SameAt (Pol k) s t = s.things.pol k ≡ t.things.pol k
 
--- the same where accounts and grafts are left out
+-- the same for things, which have no accounts and of a graft only its kept segment
 abbrev pub SameThing : Object → Things → Things → Type 0
 SameThing (Graft q pt) s t = s.segment q pt ≡ t.segment q pt
 SameThing (Acct q) s t = ⊤
@@ -135,7 +135,7 @@ SameThing Cache s t = s.cache ≡ t.cache
 SameThing (Lock u) s t = s.lock u ≡ t.lock u
 SameThing (Pol k) s t = s.pol k ≡ t.pol k
 
--- the accounts and grafts of w where the test holds, and else those of s
+-- the accounts and grafts of w that pass the test, and otherwise those of s
 abbrev pub mix_accounts : (Object → Bool) → Accounts → Accounts → Accounts
 mix_accounts test w s =
     record {
@@ -143,7 +143,7 @@ mix_accounts test w s =
       acct = λ q. cond (test (Acct q)) (w.acct q) (s.acct q);
     }
 
--- the other objects of w where the test holds, and else those of s
+-- the other objects of w that pass the test, and otherwise those of s
 abbrev pub mix_things : (Object → Bool) → Things → Things → Things
 mix_things test w s =
     record {
@@ -157,7 +157,8 @@ mix_things test w s =
       handlers = cond (test Queue) w.handlers s.handlers;
     }
 
--- `mix test w s` has the objects of w where the test holds, and those of s elsewhere.
+-- `mix test w s` has the value of w for each object that passes the test, and that of s for all
+-- others.
 abbrev pub mix : (Object → Bool) → Objects → Objects → Objects
 mix test w s = record {
   accounts = mix_accounts test w.accounts s.accounts;

@@ -1,4 +1,4 @@
--- Three laws of comparing objects, for proofs that don't want to look into the comparison.
+-- Two laws of comparing objects, for proofs that don't unfold the comparison.
 use Rattle.std.specs.Prelude.{◌≡◌, true, false}
 use Rattle.std.proofs.Common.{arith, refl}
 use Rattle.std.proofs.lemmas.Bool.Decides.{nat_tests}
@@ -6,7 +6,7 @@ use Rattle.kernel_data.specs.declared.Object.{Object}
 use Rattle.kernel_data.specs.declared.Object.TheVariants.{Graft, Acct, Cell, OpenFile, Queue, Cache, Lock, Pol}
 use Rattle.kernel_data.specs.Objects.{same_object}
 
--- an object is itself
+-- an object is the same as itself
 pub same_object_self : (o : Object) → same_object o o ≡ true
 unfolding same_object
 same_object_self (Graft q pt) = grind (arith, nat_tests)
@@ -18,7 +18,7 @@ same_object_self Cache = refl
 same_object_self (Lock u) = grind (arith, nat_tests)
 same_object_self (Pol k) = grind (arith, nat_tests)
 
--- what passes as one object is one
+-- two objects that compare as the same are equal
 pub same_object_is : (a b : Object) → same_object a b ≡ true → a ≡ b
 unfolding same_object
 same_object_is (Graft q pt) (Graft r pu) h = grind (arith, nat_tests)

@@ -1,16 +1,16 @@
 -- A *world* is what is fixed once a script has booted: the set-up lines, the disk's size, its
--- directory, and the highest id that a graft may call. The table of images is apart from it, since
+-- directory, and the highest id that a graft may call. The table of images isn't part of it, since
 -- `image` lines fill it while calls are in flight.
 use Rattle.std.specs.Prelude.{ℕ, suc, ◌+◌, Bool, true, false, nat_eq, List, [], ◌∷◌, Option, Some, None, slice_index_or}
 use Rattle.std.specs.Cmp.Lexicographic.{pointwise}
 use Rattle.kernel_data.specs.declared.FileRow.{FileRow}
 use Rattle.kernel_data.specs.declared.Instr.{Instr}
 
--- an image that was loaded
+-- a loaded image
 pub record Image : Type 0 where
   pub code : List Instr
   pub body : List ℕ
-  -- its grafts keep their segments from one completed call to the next
+  -- its grafts keep their segments from one completed graft call to the next
   pub keep : Bool
 
 -- an image of this code and data that keeps nothing
@@ -31,11 +31,11 @@ pub record World : Type 0 where
   pub frames : ℕ
   -- for each kind of object, in their order, how many ticks a call waits for it
   pub patience : ℕ → ℕ
-  -- what root has of each kind of amount at first
+  -- how much root has of each kind of amount at first
   pub grant : ℕ
   -- how many blocks the disk has
   pub disk_size : ℕ
-  -- the 16 entries of the directory, of which some are usable
+  -- the 16 entries of the directory, some of which are usable
   pub directory : List (Option FileRow)
   -- the highest id of the callable list that grafts may call
   pub callable : ℕ
@@ -44,29 +44,29 @@ pub record World : Type 0 where
 abbrev pub processes : List ℕ
 processes = 0 ∷ 1 ∷ 2 ∷ 3 ∷ 4 ∷ 5 ∷ 6 ∷ 7 ∷ 8 ∷ 9 ∷ 10 ∷ 11 ∷ 12 ∷ 13 ∷ 14 ∷ 15 ∷ []
 
--- the usable entry of this number
+-- the entry with this number, if it is usable
 abbrev pub file_row : World → ℕ → Option FileRow
 file_row v n = slice_index_or v.directory n None
 
--- the blocks of a file, 0 where there is no such entry
+-- how many blocks a file has, 0 if it has no usable entry
 abbrev pub blocks_of : World → ℕ → ℕ
 blocks_of v n = elim (file_row v n) [ None ↦ 0 | Some r ↦ r.blocks ]
 
--- the disk's block that is block i of a file
+-- which block of the disk is block i of a file
 abbrev pub block_of : World → ℕ → ℕ → ℕ
 block_of v n i = elim (file_row v n) [ None ↦ 0 | Some r ↦ r.start + i ]
 
--- two texts are one
+-- two texts are the same
 abbrev pub same_bytes : List ℕ → List ℕ → Bool
 same_bytes xs ys = pointwise nat_eq xs ys
 
--- the first entry of this name, the rows being numbered from n
+-- the number of the first entry with this name, if the rows are numbered from n
 abbrev pub entry_named : List ℕ → ℕ → List (Option FileRow) → Option ℕ
 entry_named name n [] = None
 entry_named name n (None ∷ rows) = entry_named name (suc n) rows
 entry_named name n (Some r ∷ rows) =
     elim (same_bytes r.name name) [ true ↦ Some n | false ↦ entry_named name (suc n) rows ]
 
--- the usable entry of this name
+-- the number of the usable entry with this name
 abbrev pub file_named : World → List ℕ → Option ℕ
 file_named v name = entry_named name 0 v.directory

@@ -150,8 +150,8 @@ pub enum Event {
     Sys(u32, SysCall),
 }
 
-/// A system call without its bytes, which stand beside it: the name of `OpenName`, what `Write` and
-/// `StreamWrite` write, and the event of `Serve`. All others have none (`call_with`,
+/// A system call without its bytes, which are stored next to it: the name of `OpenName`, what
+/// `Write` and `StreamWrite` write, and the event of `Serve`. All others have none (`call_with`,
 /// `specs/Bare.antt`).
 #[derive(Clone, Copy)]
 pub enum BareCall {
@@ -213,7 +213,7 @@ pub enum BareCall {
     },
 }
 
-/// What happens to a kernel, without the bytes of a system call, which stand beside it.
+/// What happens to a kernel, without the bytes of a system call, which are stored next to it.
 #[derive(Clone, Copy)]
 pub enum BareEvent {
     Tick,
@@ -221,7 +221,7 @@ pub enum BareEvent {
     Sys(u32, BareCall),
 }
 
-/// What a call that ends well answers.
+/// The answer of a call that ends well.
 #[derive(Clone, Copy)]
 pub enum Reply {
     Plain,
@@ -270,7 +270,7 @@ pub enum Cause {
     TimeOut(Object, u8),
 }
 
-/// What came about. The first number is that of the event or of the call.
+/// What happened. The first number is that of the event or of the call.
 #[derive(Drop)]
 pub enum Note {
     Ticked(u32, u32),
@@ -297,8 +297,8 @@ pub enum Note {
     },
 }
 
-/// A note without its bytes, which stand beside it: of those that were given, the number of the
-/// call and how many there are.
+/// A note without its bytes, which are stored next to it. For bytes that were given, it has the
+/// number of the call and how many bytes there are.
 #[derive(Clone, Copy)]
 pub enum BareNote {
     Ticked(u32, u32),
@@ -325,8 +325,8 @@ pub enum BareNote {
     },
 }
 
-/// What undoes a change of a graft: the value from before, or for a kept segment its installer and
-/// its point, the bytes from before standing beside it.
+/// What undoes a change that a graft made: the value from before or, for a kept segment, its
+/// installer and its point; the bytes from before are stored next to it.
 #[derive(Clone, Copy)]
 pub enum Inverse {
     Cell {
@@ -352,7 +352,7 @@ pub enum Inverse {
 impl Default for Inverse {
     ghost use Rattle.kernel_data.specs.declared.Inverse.TheVariants.{Cell};
 
-    /// Cell 0 of process 0 back to 0: what stands in a place of a fixed list that isn't used.
+    /// Cell 0 of process 0 back to 0: the value in an unused place of a fixed list.
     fn default() -> Inverse
         ensures { result ≡ Cell 0 0 0 }
     {
@@ -443,8 +443,8 @@ pub struct FileRow {
     pub length: u32,
 }
 
-/// An object that a piece needs. `by_user`: the process that holds it as a user lock is a blocker
-/// too.
+/// An object that a piece needs. With `by_user`, the process that holds it as a user lock is a
+/// blocker too.
 #[derive(Clone, Copy)]
 pub struct Need {
     pub object: Object,
@@ -457,8 +457,8 @@ impl Default for Need {
     ghost use Rattle.kernel_data.specs.declared.Object.TheVariants.{Graft};
     ghost use Rattle.kernel_data.specs.declared.Mode.TheVariants.{Shared};
 
-    /// A first point, shared: what stands in a place of a fixed list that isn't used. All its bytes
-    /// are zeros, so such a list is made at once.
+    /// A first point, shared: the value in an unused place of a fixed list. All its bytes are
+    /// zeros, so a list of these is made at once.
     fn default() -> Need
         ensures { result ≡ record { object = Graft 0 0; mode = Shared; by_user = false } }
     {

@@ -1,4 +1,4 @@
-//! The small lists of the plain data. They lie in the value itself, so that no call takes memory.
+//! The short lists of the plain data. They are stored in the value itself, so no call takes memory.
 
 ghost use Rattle.std.specs.Prelude.{◌≡◌, ◌≤◌, [], ◌∷◌, ◌++◌, length, nat_lt, if◌then◌else◌};
 
@@ -8,7 +8,7 @@ use crate::{
 };
 use arrayvec::ArrayVec;
 
-/// The same elements once more.
+/// A copy with the same elements.
 fn copy_of<T: Copy + Default, const N: usize>(from: &ArrayVec<T, N>) -> ArrayVec<T, N>
     ensures { result.items ≡ from.now.items }
 {
@@ -18,7 +18,7 @@ fn copy_of<T: Copy + Default, const N: usize>(from: &ArrayVec<T, N>) -> ArrayVec
 }
 
 impl Name {
-    /// The list without bytes.
+    /// The empty list.
     pub fn new() -> Name
         ensures { result ≡ [] }
     {
@@ -27,7 +27,7 @@ impl Name {
         }
     }
 
-    /// Appends one. False, with nothing changed, exactly where the list is full.
+    /// Appends one. Returns false, and changes nothing, exactly when the list is full.
     pub fn push(&mut self, v: u8) -> bool
         ensures fits { result ≡ nat_lt (length self.old) NAME_BYTES }
         ensures value { self.new ≡ (if result then self.old ++ v ∷ [] else self.old) }
@@ -43,7 +43,7 @@ impl Name {
         self.text.as_slice()
     }
 
-    /// The same list once more.
+    /// A copy of the list.
     pub fn copy(&self) -> Name
         ensures { result ≡ self.now }
     {
@@ -54,7 +54,7 @@ impl Name {
 }
 
 impl Bytes {
-    /// The list without bytes.
+    /// The empty list.
     pub fn new() -> Bytes
         ensures { result ≡ [] }
     {
@@ -63,7 +63,7 @@ impl Bytes {
         }
     }
 
-    /// Appends one. False, with nothing changed, exactly where the list is full.
+    /// Appends one. Returns false, and changes nothing, exactly when the list is full.
     pub fn push(&mut self, v: u8) -> bool
         ensures fits { result ≡ nat_lt (length self.old) BLOCK_BYTES }
         ensures value { self.new ≡ (if result then self.old ++ v ∷ [] else self.old) }
@@ -79,7 +79,7 @@ impl Bytes {
         self.data.as_slice()
     }
 
-    /// The same list once more.
+    /// A copy of the list.
     pub fn copy(&self) -> Bytes
         ensures { result ≡ self.now }
     {
@@ -90,7 +90,7 @@ impl Bytes {
 }
 
 impl QueueRows {
-    /// The list without rows.
+    /// The empty list.
     pub fn new() -> QueueRows
         ensures { result ≡ [] }
     {
@@ -99,7 +99,7 @@ impl QueueRows {
         }
     }
 
-    /// Appends one. False, with nothing changed, exactly where the list is full.
+    /// Appends one. Returns false, and changes nothing, exactly when the list is full.
     pub fn push(&mut self, row: QueueRow) -> bool
         ensures fits { result ≡ nat_lt (length self.old) PROCESSES }
         ensures value { self.new ≡ (if result then self.old ++ row ∷ [] else self.old) }
@@ -115,7 +115,7 @@ impl QueueRows {
         self.rows.as_slice()
     }
 
-    /// The same list once more.
+    /// A copy of the list.
     pub fn copy(&self) -> QueueRows
         ensures { result ≡ self.now }
     {
@@ -126,7 +126,7 @@ impl QueueRows {
 }
 
 impl FrameRows {
-    /// The list without rows.
+    /// The empty list.
     pub fn new() -> FrameRows
         ensures { result ≡ [] }
     {
@@ -135,7 +135,7 @@ impl FrameRows {
         }
     }
 
-    /// Appends one. False, with nothing changed, exactly where the list is full.
+    /// Appends one. Returns false, and changes nothing, exactly when the list is full.
     pub fn push(&mut self, row: FrameRow) -> bool
         ensures fits { result ≡ nat_lt (length self.old) FRAMES }
         ensures value { self.new ≡ (if result then self.old ++ row ∷ [] else self.old) }
@@ -151,7 +151,7 @@ impl FrameRows {
         self.rows.as_slice()
     }
 
-    /// The same list once more.
+    /// A copy of the list.
     pub fn copy(&self) -> FrameRows
         ensures { result ≡ self.now }
     {

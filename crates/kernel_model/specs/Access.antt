@@ -34,8 +34,8 @@ is_out_of_range id r0 r1 =
     || (id == 5 && nat_lt 8 r1) || (id == 9 && nat_lt 255 r1) || (is_tuning id && nat_lt 2 r0)
     || (id == 12 && nat_lt 15 r0)
 
--- A call is refused early where its id is above the highest one, where another than root's graft
--- tunes, or where an argument is out of its range as the numbers alone show.
+-- A call is refused early if its id is above the highest one, if a graft of another process than 0
+-- tunes, or if an argument is out of its range, as the numbers alone show.
 abbrev pub early_refusal : (highest id r0 r1 q : ℕ) → Option Cause
 early_refusal highest id r0 r1 q =
     cond (nat_lt highest id) (Some (NotCallable id))
@@ -46,8 +46,8 @@ early_refusal highest id r0 r1 q =
 abbrev pub needed : Object → Mode → Need
 needed o mode = record { object = o; mode = mode; by_user = false }
 
--- the object that a plain accessor needs, and in which mode; for `take_lock` the holder of the user
--- lock hinders too
+-- the object that a plain accessor needs, and in which mode; the holder of the user lock hinders
+-- `take_lock` too
 abbrev pub accessed : (id r0 q : ℕ) → Need
 accessed id r0 q =
     cond (id == 0) (needed (Cell q r0) Shared) (cond (id == 1) (needed (Cell q r0) Exclusive)
@@ -62,7 +62,7 @@ accessed id r0 q =
 abbrev pub asked_point : ℕ → ℕ → ℕ
 asked_point id r0 = cond (id == 13) r0 (cond (id == 14) 4 5)
 
--- the objects of an ask, before the graft of its point
+-- the objects that an ask needs before the graft of its point
 abbrev pub asked_objects : (id r0 q : ℕ) → List Need
 asked_objects id r0 q =
     cond (id == 13) (needed (OpenFile q r0) Shared ∷ needed (Pol 0) Shared ∷ [])
@@ -87,7 +87,7 @@ with_window v o = option_map (λ (r : OpenRow). record r { window = v }) o
 abbrev pub with_mark : ℕ → Option FrameValue → Option FrameValue
 with_mark v o = option_map (λ (r : FrameValue). record r { mark = v }) o
 
--- a policy whose chosen one has this parameter
+-- the policies of a kind, with this parameter for the chosen one
 abbrev pub with_param : ℕ → PolValue → PolValue
 with_param v p = record p { param = at p.chosen v p.param }
 
@@ -125,7 +125,7 @@ abbrev pub param_top : (kind policy : ℕ) → Option ℕ
 param_top kind j =
     cond (j == 0) None (cond (kind == 0) (Some 8) (cond (kind == 1) (Some 255) (Some 39)))
 
--- parameter 0 with a value in the range
+-- it is parameter 0, and the value is in its range
 abbrev pub in_range : Option ℕ → ℕ → ℕ → Bool
 in_range None k v = false
 in_range (Some top) k v = k == 0 && nat_le v top
@@ -141,7 +141,7 @@ pub data Callable : Type 0 where
   CellGet CellSet NiceGet NiceSet WindowGet WindowSet FramesMine : Callable
   FrameAt FrameBlock FrameMark TuneGet TuneSet TakeLock : Callable
 
--- the accessor of an id
+-- the accessor that has this id
 abbrev pub callable : ℕ → Callable
 callable id =
     cond (id == 0) CellGet (cond (id == 1) CellSet (cond (id == 2) NiceGet (cond (id == 3) NiceSet
@@ -151,8 +151,8 @@ callable id =
     (cond (id == 9) FrameMark
     (cond (id == 10) TuneGet (cond (id == 11) TuneSet TakeLock)))))))))))
 
--- what an accessor comes to: a result; a result, a change and what undoes it; or a refusal by the
--- values
+-- what an accessor returns: a result; a result, a change and what undoes it; or a refusal because
+-- of the values
 pub data Access : Type 0 where
   Gives : (result : ℕ) → Access
   Changes : (result : ℕ) → Inverse → Things → Access
@@ -172,7 +172,8 @@ window_change id fd v q (Some o) w = Changes o.window (Window q fd o.window) (se
 abbrev pub tune_change : (kind k v old : ℕ) → Things → Access
 tune_change kind k v old w = Changes old (Tune kind k old) (set_param kind v w)
 
--- what each accessor does; a changing one gives the value from before, also where it stays the same
+-- what each accessor does; one that makes a change gives the value from before, even if it stays
+-- the same
 abbrev pub access_by : Callable → (id r0 r1 r2 q : ℕ) → Things → Access
 access_by CellGet id r0 r1 r2 q w = Gives (w.cell q r0)
 access_by CellSet id r0 r1 r2 q w =
@@ -198,15 +199,14 @@ access_by TuneSet id r0 r1 r2 q w =
     (Refuses (BadArgument id))
 access_by TakeLock id r0 r1 r2 q w = Gives r0
 
--- A plain accessor of process q gives a result; or gives the value from before, changes its object
--- and says what undoes that; or is refused by the values.
+-- A plain accessor of process q gives a result; or it gives the value from before, changes its
+-- object and says what undoes that; or it is refused because of the values.
 abbrev pub access : (id r0 r1 r2 q : ℕ) → Things → Access
 access id r0 r1 r2 q w = access_by (callable id) id r0 r1 r2 q w
 
 -- ---- undoing
 
--- what a change found: its inverse, and for a kept segment the bytes that were kept before, if
--- there were any
+-- what a change found: its inverse and, for a kept segment, the bytes that were kept before, if any
 pub record Found : Type 0 where
   pub inverse : Inverse
   pub bytes : Option (ℕ → ℕ)
@@ -219,7 +219,7 @@ bare_found i = record { inverse = i; bytes = None }
 abbrev pub found_segment : (q pt : ℕ) → Things → Found
 found_segment q pt w = record { inverse = Segment q pt; bytes = w.segment q pt }
 
--- puts the value back that an inverse names, and for a kept segment these bytes
+-- puts back the value that an inverse names and, for a kept segment, these bytes
 abbrev pub undo_by : Inverse → (bytes : Option (ℕ → ℕ)) → Things → Things
 undo_by (Inverse.Cell q k v) bytes w = set_cell q k v w
 undo_by (Nice q v) bytes w = set_nice q v w
@@ -241,6 +241,6 @@ object_of_inverse (Mark f v) = Cache
 object_of_inverse (Tune kind k v) = Pol kind
 object_of_inverse (Segment q pt) = Graft q pt
 
--- the object that a record's change is of
+-- the object that the change of a record applies to
 abbrev pub changed_by : Found → Object
 changed_by f = object_of_inverse f.inverse

@@ -1,4 +1,4 @@
--- States and graft calls that agree as far as it matters.
+-- States and graft calls that agree in what matters.
 use Rattle.std.specs.Prelude.{◌≡◌, ℕ, Bool, true, false, ◌&&◌, ◌||◌, List, [], ◌∷◌, map, option_map, Option, Some, ⊤}
 use Rattle.std.specs.List.{list_any}
 use Rattle.kernel_data.specs.declared.Need.{Need}
@@ -40,7 +40,7 @@ AgreeOn ns s u = (o : Object) → is_needed o ns ≡ true → SameAt o s u
 abbrev pub SameLiving : Objects → Objects → Type 0
 SameLiving s u = (q : ℕ) → lives s.things.queue q ≡ lives u.things.queue q
 
--- where w and u have the same value, x and y have it too
+-- x and y agree on each object on which w and u agree
 abbrev pub Keeps : (w u x y : Objects) → Type 0
 Keeps w u x y = (o : Object) → SameAt o w u → SameAt o x y
 
@@ -56,11 +56,11 @@ markless x = option_map (λ (f : FrameValue). record f { mark = 0 }) x
 abbrev pub niceless : List QueueRow → List QueueRow
 niceless rows = map (λ (r : QueueRow). record r { nice = 0 }) rows
 
--- the open files of a process agree, windows apart
+-- the open files of a process agree, except for their windows
 abbrev pub SameFiles : ℕ → Objects → Objects → Type 0
 SameFiles p s u = (fd : ℕ) → windowless (s.things.file p fd) ≡ windowless (u.things.file p fd)
 
--- two states differ alone in what grafts may change: cells, nices, windows, marks, parameters,
+-- two states differ only in what grafts may change: cells, nices, windows, marks, parameters,
 -- accounts and grafts
 pub record AreAlike (s u : Objects) : Type 0 where
   pub files : (p : ℕ) → SameFiles p s u
@@ -77,7 +77,7 @@ Extends images more = (slot : ℕ) (i : Image) → images slot ≡ Some i → mo
 
 -- ---- graft calls
 
--- levels are the same one by one, but for what each found when it began
+-- the levels are the same one by one, except for what each found when it began
 abbrev pub LevelsAlike : List Level → List Level → Type 0
 LevelsAlike [] [] = ⊤
 LevelsAlike (l ∷ ls) (k ∷ ks) = (record l { kept = k.kept } ≡ k) × LevelsAlike ls ks
@@ -87,8 +87,8 @@ LevelsAlike _ _ = ⊥
 abbrev pub is_held_in : List Level → Object → Bool
 is_held_in ls o = list_any (λ (l : Level). is_held (l.touched o)) ls
 
--- two graft calls have the same levels, and the same values of what these hold, now and when each
--- level began
+-- two graft calls have the same levels, and the objects that these hold have the same values, now
+-- and when each level began
 pub record ConfigsAlike (c d : Config) : Type 0 where
   pub levels : LevelsAlike c.levels d.levels
   pub now : (o : Object) → is_held_in c.levels o ≡ true → SameAt o c.now d.now

@@ -1,4 +1,4 @@
--- All calls of the program: those of processes, files, policies and grafts, and beside them those of
+-- All calls of the program: those of processes, files, policies and grafts, together with those of
 -- event points and of stream points.
 use Rattle.kernel_model.specs.Meaning.{Meaning}
 use Rattle.kernel_model.specs.Pieces.{plain_calls}

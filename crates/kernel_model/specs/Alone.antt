@@ -1,6 +1,6 @@
--- A call that is alone in flight runs to its end at its own event, by any number of pieces. These
--- laws hold for every table of calls; the crate `kernel_laws` has a function for each of the three
--- statements.
+-- A call that is alone in flight runs to its end at its own event, however many pieces it has.
+-- These laws hold for every table of calls; the crate `kernel_laws` has a function for each of the
+-- three statements.
 use Rattle.std.specs.Prelude.{◌≡◌, ℕ, zero, suc, ◌≤◌, ◌==◌, Bool, true, false, not, ◌&&◌, List, []}
 use Rattle.std.specs.Prelude.{◌∷◌, ◌++◌, Option, Some, None, is_some, length, ◌<◌, Contains, Ok, ⊤}
 use Rattle.std.specs.Prelude.{refl}
@@ -38,8 +38,8 @@ module _ (m : Meaning) where
   abbrev pub next_piece : ℕ → Stage → Run → Piece
   next_piece p t r = m.piece r.kernel.world r.kernel.images r.kernel.objects r.blocks p t None r.io
 
-  -- At most so many pieces of a call of p, one after another, with the default answers. Each adds
-  -- its notes.
+  -- At most the given number of pieces of a call of p, one after another, with the default answers.
+  -- Each adds its notes.
   abbrev pub pieces_from : ℕ → (p number : ℕ) → Stage → Run → Run
   pieces_from zero p number t r = r
   pieces_from (suc n) p number t r =
@@ -54,7 +54,7 @@ module _ (m : Meaning) where
   is_free p t r =
       is_unhindered r.kernel.objects.things.lock p (m.need r.kernel.world r.kernel.objects p t)
 
-  -- nor from any of at most so many pieces
+  -- no user lock of another process keeps p from any of at most the given number of pieces
   abbrev pub are_free : ℕ → (p number : ℕ) → Stage → Run → Bool
   are_free zero p number t r = true
   are_free (suc n) p number t r =
@@ -64,8 +64,8 @@ module _ (m : Meaning) where
         | Fails refusal ↦ true
       ]
 
-  -- At most so many pieces bring the call to its end, and before each of them no graft stands and
-  -- no user lock of another process keeps p from it.
+  -- At most the given number of pieces bring the call to its end, and before each of them no graft
+  -- is installed and no user lock of another process keeps p from it.
   abbrev pub GoesToItsEnd : ℕ → (p number : ℕ) → Stage → Run → Type 0
   GoesToItsEnd zero p number t r = ⊥
   GoesToItsEnd (suc n) p number t r =
@@ -78,7 +78,7 @@ module _ (m : Meaning) where
 
   -- ---- the event of such a call
 
-  -- what a piece of a call that is alone leaves is settled, by what comes after it
+  -- settling after a piece of a call that is alone, by what comes after the piece
   settle_after : (n k p number : ℕ) (a : After) (r : Run) (v : World) (images : ImageTable)
       (s : Objects) (clock : ℕ) (blocks : Blocks) (notes : List Note) (io : List Bool) →
       r ≡ at_rest v images s clock blocks notes io →
@@ -101,7 +101,7 @@ module _ (m : Meaning) where
   settle_after n k p number (Fails refusal) r v images s clock blocks notes io e h rest =
       ap (settle m k) e ∙ settle_rests m k v images s clock blocks notes io ∙ sym e
 
-  -- a call that is alone in flight settles by its pieces
+  -- settling a call that is alone in flight does its pieces
   settle_pieces : (n k p number : ℕ) (t : Stage) (v : World) (images : ImageTable) (s : Objects)
       (clock : ℕ) (blocks : Blocks) (notes : List Note) (io : List Bool) →
       n ≤ k → GoesToItsEnd n p number t (at_rest v images s clock blocks notes io) →
@@ -122,7 +122,7 @@ module _ (m : Meaning) where
       (λ u g. settle_pieces n k p number u v images q.objects clock q.blocks l.notes l.io
       (omega arith) g) h.2
 
-  -- pieces change the objects alone, of the kernel
+  -- pieces change only the objects of the kernel
   kept_by_pieces : (n p number : ℕ) (t : Stage) (r : Run) →
       (pieces_from n p number t r).kernel
       ≡ record (r.kernel) { objects = (pieces_from n p number t r).kernel.objects }
@@ -144,12 +144,12 @@ module _ (m : Meaning) where
       kept_after number (EndsWith reply) r q f h = refl
       kept_after number (Fails refusal) r q f h = refl
 
-  -- where no call is in flight nothing more is said of one
+  -- if no call of p is in flight, nothing more is written about it
   none_last : (p : ℕ) (r : Run) (k : Kernel) → r.kernel ≡ k → k.call p ≡ None → last m p r ≡ r
   none_last p r k e h = ap (λ c. last_note m p c r) (ap (λ (l : Kernel). l.call p) e ∙ h)
 
-  -- The event of a call that goes to its end by at most n pieces, where no call is in flight, is
-  -- these pieces. It asks no law of the table.
+  -- If no call is in flight, the event of a call that goes to its end in at most n pieces is these
+  -- pieces. This needs no law of the table.
   pub event_of_pieces : (n p number : ℕ) (c : SysCall) (t : Stage) (v : World) (images : ImageTable)
       (s : Objects) (clock : ℕ) (blocks : Blocks) (io : List Bool) →
       lives s.things.queue p ≡ true → m.early v images p c ≡ Ok t → n ≤ 256 →
@@ -163,17 +163,17 @@ module _ (m : Meaning) where
       ∙ ap (last m p) (settle_pieces n 256 p number t v images s clock blocks [] io le h)
       ∙ none_last p x (quiet v images x.kernel.objects clock) (kept_by_pieces n p number t r) refl
 
-  -- ---- where the laws hold
+  -- ---- if the laws hold
 
-  -- where a call of p may go on alone: it stands at its stage, the state and the disk are sound,
-  -- and no graft stands
+  -- a call of p may go on alone: it is at its stage, the state and the disk are sound, and no graft
+  -- is installed
   pub record MayGoOn (v : World) (images : ImageTable) (s : Objects) (blocks : Blocks) (p : ℕ)
       (t : Stage) : Type 0 where
     pub ready : IsReady m v images s p t None
     pub whole : HasWholeBlocks v blocks
     pub no_graft : HasNoGraft s
 
-  -- where none stood and no new one came none stands
+  -- if a point had no graft and got no new one, it has none
   still_none : (s u : Objects) (q pt : ℕ) → s.accounts.graft q pt ≡ None →
       is_new_graft s u q pt ≡ false → u.accounts.graft q pt ≡ None
   still_none s u q pt none h =
@@ -184,7 +184,7 @@ module _ (m : Meaning) where
       none_by None h = refl
       none_by (Some g) h = absurd cc
 
-  -- a piece that isn't the last puts no graft in place
+  -- a piece that isn't the last installs no graft
   no_new_graft : (laws : Laws m) (p : ℕ) (t u : Stage) (v : World) (images : ImageTable)
       (s : Objects) (blocks : Blocks) (io : List Bool) (q pt : ℕ) →
       IsReady m v images s p t None → (m.piece v images s blocks p t None io).after ≡ Continues u →
@@ -199,7 +199,7 @@ module _ (m : Meaning) where
       contrary : true ≡ false → ⊥
       contrary h = cc
 
-  -- after a piece that isn't the last
+  -- after a piece that isn't the last, the call may go on alone
   goes_on_after : (laws : Laws m) (p : ℕ) (t u : Stage) (v : World) (images : ImageTable)
       (s : Objects) (blocks : Blocks) (io : List Bool) →
       MayGoOn v images s blocks p t →
@@ -226,7 +226,7 @@ module _ (m : Meaning) where
             (no_new_graft laws p t u v images s blocks io r pt h.ready e);
       }
 
-  -- what is left goes to its end too, by what comes after a piece
+  -- after a piece, what is left goes to its end too
   ends_after : (n p number : ℕ) (a : After) (l : Run) →
       ((u : Stage) → a ≡ Continues u → GoesToItsEnd n p number u l) →
       elim a as (λ _. Type 0) [
@@ -238,7 +238,7 @@ module _ (m : Meaning) where
   ends_after n p number (EndsWith reply) l h = tt
   ends_after n p number (Fails refusal) l h = tt
 
-  -- and these pieces are free too
+  -- and the pieces that are left are free too
   free_after : (n p number : ℕ) (a : After) (u : Stage) (l : Run) → a ≡ Continues u →
       elim a as (λ _. Bool) [
         | Continues w ↦ are_free n p number w l
@@ -252,7 +252,7 @@ module _ (m : Meaning) where
         | Fails refusal ↦ true
       ]) (sym e) ∙ h
 
-  -- a call whose pieces are free goes to its end by as many as are left
+  -- a call whose pieces are free goes to its end in as many pieces as are left
   pub goes_to_its_end : (laws : Laws m) (n p number : ℕ) (t : Stage) (v : World)
       (images : ImageTable) (s : Objects) (clock : ℕ) (blocks : Blocks) (notes : List Note)
       (io : List Bool) →
@@ -288,7 +288,7 @@ is_lock (TakeLock u) = true
 is_lock c = false
 
 -- a call that is granted may begin alone: the state and the disk are sound, its process lives, and
--- no graft stands
+-- no graft is installed
 pub record BeginsAlone (m : Meaning) (v : World) (images : ImageTable) (s : Objects)
     (blocks : Blocks) (p : ℕ) (c : SysCall) (t : Stage) : Type 0 where
   pub store : IsSoundStore v s
@@ -298,9 +298,9 @@ pub record BeginsAlone (m : Meaning) (v : World) (images : ImageTable) (s : Obje
   pub caller : lives s.things.queue p ≡ true
   pub granted : m.early v images p c ≡ Ok t
 
--- Where no call is in flight and no graft stands, a call whose pieces no user lock of another
--- process hinders is run to its end at its own event: piece after piece, with the default answers,
--- and by as many pieces as are left.
+-- If no call is in flight, no graft is installed and no user lock of another process hinders its
+-- pieces, a call runs to its end at its own event: piece after piece, with the default answers, in
+-- as many pieces as are left.
 abbrev pub CallsRunAlone : Meaning → Type 0
 CallsRunAlone m =
     (n p number : ℕ) (c : SysCall) (t : Stage) (v : World) (images : ImageTable) (s : Objects)
@@ -310,7 +310,7 @@ CallsRunAlone m =
     event m (quiet v images s clock) blocks number (Sys p c) io
     ≡ pieces_from m n p number t (at_rest v images s clock blocks [] io)
 
--- a call other than `lock` is hindered by no user lock
+-- no user lock hinders a call other than `lock`
 abbrev pub OthersAreFree : Meaning → Type 0
 OthersAreFree m =
     (n p number : ℕ) (c : SysCall) (t : Stage) (v : World) (images : ImageTable) (s : Objects)
@@ -318,25 +318,25 @@ OthersAreFree m =
     BeginsAlone m v images s blocks p c t → is_lock c ≡ false →
     are_free m n p number t (at_rest v images s clock blocks [] io) ≡ true
 
--- a note of bytes that a call of this number gave
+-- a note of bytes that the call of this number gave
 abbrev pub is_gift : ℕ → Note → Bool
 is_gift number (Gave n bytes) = n == number
 is_gift number _ = false
 
--- the note of the end of a call of this number
+-- the note of the end of the call of this number
 abbrev pub is_end : ℕ → Note → Bool
 is_end number (Ended n reply) = n == number
 is_end number (Refused n refusal) = n == number
 is_end number _ = false
 
--- the notes of a whole call of this number: of bytes that it gave, and then of its end
+-- the notes of the whole call of this number: the bytes that it gave, and then its end
 abbrev pub is_whole_call : ℕ → List Note → Bool
 is_whole_call number [] = false
 is_whole_call number (a ∷ []) = is_end number a
 is_whole_call number (a ∷ b ∷ notes) = is_gift number a && is_whole_call number (b ∷ notes)
 
--- Such a call leaves no call in flight and nothing in the order, and what is written is of this
--- call alone, up to its end: no `waits` and no `graft` line.
+-- A call that runs alone leaves no call in flight and nothing in the order, and writes only lines
+-- of its own, up to its end: no `waits` and no `graft` line.
 abbrev pub NothingIsLeft : Meaning → Type 0
 NothingIsLeft m =
     (n p number : ℕ) (c : SysCall) (t : Stage) (v : World) (images : ImageTable) (s : Objects)
@@ -348,7 +348,7 @@ NothingIsLeft m =
 
 -- ---- their proofs
 
--- where a call begins it may go on
+-- a call that may begin alone may go on alone
 may_begin : (m : Meaning) (laws : Laws m) (v : World) (images : ImageTable) (s : Objects)
     (blocks : Blocks) (p : ℕ) (c : SysCall) (t : Stage) →
     BeginsAlone m v images s blocks p c t → MayGoOn m v images s blocks p t
@@ -370,14 +370,14 @@ may_begin m laws v images s blocks p c t h =
       no_graft = h.no_graft;
     }
 
--- a call whose pieces are free is run by its pieces
+-- a call whose pieces are free runs piece after piece
 pub calls_run_alone : (m : Meaning) → Laws m → CallsRunAlone m
 calls_run_alone m laws n p number c t v images s clock blocks io h left most free =
     event_of_pieces m n p number c t v images s clock blocks io h.caller h.granted most
     (goes_to_its_end m laws n p number t v images s clock blocks [] io
     (may_begin m laws v images s blocks p c t h) left free)
 
--- needs of which none is of a user lock are hindered by none
+-- no user lock hinders needs if none of them is for a user lock
 each_free : (users : ℕ → Option ℕ) (p : ℕ) (ns : List Need) →
     ((x : Need) → Contains ns x → x.by_user ≡ false) → is_unhindered users p ns ≡ true
 each_free users p [] h = refl
@@ -389,7 +389,7 @@ each_free users p (x ∷ ns) h =
     below_suc : (n : ℕ) → 0 < suc n
     below_suc n = omega arith
 
--- of a call other than `lock` no user lock counts
+-- a call other than `lock` waits for no user lock
 no_lock_waits : (c : SysCall) (o : Object) → is_lock c ≡ false → waits_for_user c o ≡ false
 no_lock_waits (TakeLock u) o h = absurd cc
 no_lock_waits c o h = refl
@@ -422,14 +422,14 @@ free_pieces m laws (suc n) p number t v images s clock blocks notes io h other =
     both_free b (EndsWith reply) l e h = ap (λ x. x && true) e
     both_free b (Fails refusal) l e h = ap (λ x. x && true) e
 
--- a call other than `lock` is hindered by no user lock
+-- no user lock hinders a call other than `lock`
 pub others_are_free : (m : Meaning) → Laws m → OthersAreFree m
 others_are_free m laws n p number c t v images s clock blocks io h other =
     free_pieces m laws n p number t v images s clock blocks [] io
     (may_begin m laws v images s blocks p c t h)
     (ap is_lock (laws.stages.same_call v images p c t h.granted) ∙ other)
 
--- gifts, and then a whole call, are a whole call
+-- gifts and then a whole call make a whole call
 gifts_before : (number : ℕ) (gifts : List Note) (b : Note) (notes : List Note) →
     list_all (is_gift number) gifts ≡ true →
     is_whole_call number (b ∷ notes) ≡ true → is_whole_call number (gifts ++ b ∷ notes) ≡ true
@@ -447,7 +447,7 @@ gift_note : (number : ℕ) (gave : Option (List ℕ)) →
 gift_note number None = refl
 gift_note number (Some bytes) = ap (λ b. b && true) (nat_eq_equiv.refl number)
 
--- gifts and gifts
+-- gifts and more gifts are gifts
 more_gifts : (number : ℕ) (gifts more : List Note) → list_all (is_gift number) gifts ≡ true →
     list_all (is_gift number) more ≡ true →
     list_all (is_gift number) (gifts ++ more) ≡ true
@@ -457,7 +457,7 @@ more_gifts number (a ∷ gifts) more h k =
     ap (λ b. b && list_all (is_gift number) (gifts ++ more)) both.0
     ∙ more_gifts number gifts more both.1 k
 
--- the last note
+-- gifts, more gifts and then the note of the end make a whole call
 last_note_of : (number : ℕ) (gifts given : List Note) (b : Note) (ends : List Note) →
     list_all (is_gift number) gifts ≡ true →
     list_all (is_gift number) given ≡ true → ends ≡ b ∷ [] → is_end number b ≡ true →
@@ -467,7 +467,7 @@ last_note_of number gifts given b ends h k e end =
     ∙ gifts_before number (gifts ++ given) b [] (more_gifts number gifts given h k) end
 
 module _ (m : Meaning) where
-  -- what comes after a piece, where the pieces behind it write a whole call
+  -- a piece and what comes after it write a whole call, if the pieces after it do
   whole_after : (n p number : ℕ) (r : Run) (q : Piece) (a : After) → q.after ≡ a →
       list_all (is_gift number) r.notes ≡ true →
       ((u : Stage) → GoesToItsEnd m n p number u (left_by number q r) →
@@ -507,7 +507,7 @@ module _ (m : Meaning) where
       whole_after n p number r q q.after refl gifts
       (λ u g k. whole_pieces n p number u (left_by number q r) g k) h.2
 
--- such a call leaves nothing in flight, and writes its own notes alone
+-- a call that runs alone leaves nothing in flight and writes only its own notes
 pub nothing_is_left : (m : Meaning) → Laws m → NothingIsLeft m
 nothing_is_left m laws n p number c t v images s clock blocks io h left most free =
     let r = at_rest v images s clock blocks [] io in

@@ -1,11 +1,11 @@
 -- Two tables of calls as one: the calls that pass a test are the first table's, all others the
--- second's. So a table of new calls is written and proved alone, and put beside those that there
--- are.
+-- second's. So a table of new calls can be written and proved on its own, and put next to the
+-- existing ones.
 use Rattle.std.specs.Prelude.{Bool, cond}
 use Rattle.kernel_data.specs.declared.SysCall.{SysCall}
 use Rattle.kernel_model.specs.Meaning.{Meaning}
 
--- the table of the calls of a, which pass the test, and of those of b
+-- one table: for the calls that pass the test it is a, for all others it is b
 abbrev pub beside : (SysCall → Bool) → (a b : Meaning) → Meaning
 beside owns a b =
     record {

@@ -16,7 +16,7 @@ use Rattle.kernel_model.specs.Kernel.{Call, Blocker, Kernel}
 abbrev pub config_in : Option Trace → Option Config
 config_in t = option_map (λ (u : Trace). u.config) t
 
--- the levels of a config, none where there is no config
+-- the levels of a config, or none if there is no config
 abbrev pub levels_in : Option Config → List Level
 levels_in None = []
 levels_in (Some c) = c.levels
@@ -29,7 +29,7 @@ locks_from table p d = touched_at (slice_index_or table p []) d
 abbrev pub number_of_call : Option Call → Option ℕ
 number_of_call c = option_map (λ (x : Call). x.number) c
 
--- a blocker: what hinders, with the number of the holder's call unless it is a user lock
+-- a blocker: what hinders, and the number of the holder's call unless it is a user lock
 abbrev pub blocker_from : Kernel → Hindrance → Blocker
 blocker_from k h =
     record {
@@ -38,13 +38,13 @@ blocker_from k h =
       call = cond h.by_user None (number_of_call (k.call h.holder));
     }
 
--- two calls, or none, are one
+-- two call numbers are the same, or both are missing
 abbrev pub same_call : Option ℕ → Option ℕ → Bool
 same_call None None = true
 same_call (Some x) (Some y) = x == y
 same_call _ _ = false
 
--- two blockers are one; the mode isn't compared
+-- two blockers are the same, or both are missing; the mode isn't compared
 abbrev pub same_blocker : Option Blocker → Option Blocker → Bool
 same_blocker None None = true
 same_blocker (Some a) (Some b) = same_object a.object b.object && a.holder == b.holder
@@ -52,7 +52,7 @@ same_blocker (Some a) (Some b) = same_object a.object b.object && a.holder == b.
 same_blocker _ _ = false
 
 module _ (m : Meaning) where
-  -- where the history of a process's call leads; nothing where it has none
+  -- where the history of a process's call leads; nothing if it has none
   abbrev pub trace_of : Kernel → ℕ → Option Call → Option Trace
   trace_of k p None = None
   trace_of k p (Some c) =
@@ -66,7 +66,7 @@ module _ (m : Meaning) where
   abbrev pub levels_of : Kernel → ℕ → List Level
   levels_of k p = levels_in (config_of k p)
 
-  -- what each level of each process's call holds, as the replay of its history tells
+  -- what each level of each process's call holds, as the replay of its history shows
   abbrev pub holds : Kernel → LockTable
   holds k = locks_from (map (levels_of k) processes)
 
@@ -84,12 +84,12 @@ module _ (m : Meaning) where
         | Some ks ↦ needs_at k (config_of k p)
       ]
 
-  -- A call's next step needs the objects of its piece or, where it has a level, those of its next
+  -- A call's next step needs the objects of its piece or, if it has a level, those of its next
   -- instruction.
   abbrev pub needs : Kernel → ℕ → List Need
   needs k p = needs_in k p (k.call p)
 
-  -- who blocks the next step of a process's call, where the table tells what calls hold
+  -- who blocks the next step of a process's call, given the table of what calls hold
   abbrev pub blocker_in : Kernel → LockTable → ℕ → Option Blocker
   blocker_in k locks p =
       option_map (blocker_from k)

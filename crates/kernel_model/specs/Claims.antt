@@ -1,5 +1,5 @@
--- Statements of what these definitions mean, in the subject's own words. Each stands here as a
--- statement; docs/PROMISES.md says which are proved, and where.
+-- Statements of what these definitions mean, in the subject's own words. They are only stated here;
+-- docs/PROMISES.md says which are proved, and where.
 use Rattle.std.specs.Prelude.{◌≡◌, ◌≢◌, ℕ, suc, ◌+◌, ◌*◌, ◌<◌, ◌≤◌, true, false, List, [], Contains}
 use Rattle.std.specs.Prelude.{Option, Some, None, is_some, Ok, ⊤, ◌⊎◌}
 use Rattle.kernel_data.specs.declared.Object.{Object}
@@ -25,7 +25,7 @@ use Rattle.kernel_model.specs.Laws.{Laws}
 
 -- ---- amounts
 
--- charging what the payer has, and removing a graft, leave every ledger
+-- charging what the payer has, and removing a graft, leave every ledger as it was
 pub record LedgersStay : Type 0 where
   pub charged : (a : Accounts) (q pt r : ℕ) (k j : Kind) → pt < 16 → 1 ≤ funds a q pt k →
       ledger (charge k q pt a) j r ≡ ledger a j r
@@ -34,14 +34,14 @@ pub record LedgersStay : Type 0 where
 
 -- ---- graft calls and their histories
 
--- an instruction is the same once more images are loaded
+-- an instruction does the same if more images are loaded
 abbrev pub MoreImages : Type 0
 MoreImages =
     (v : World) (images more : ImageTable) (p : ℕ) (c : Config) → Extends images more →
     ImagesAreLoaded images c.now.accounts →
     micro v more p c ≡ micro v images p c
 
--- an instruction changes nothing but what some level holds exclusively, before it or after it
+-- an instruction changes only what some level holds exclusively, before it or after it
 abbrev pub ChangesWhatIsHeld : Type 0
 ChangesWhatIsHeld =
     (v : World) (images : ImageTable) (p : ℕ) (c : Config) (o : Object) → IsSoundConfig v c →
@@ -49,13 +49,13 @@ ChangesWhatIsHeld =
     is_changed_in (micro v images p c).config.levels o ≡ false →
     SameAt o (micro v images p c).config.now c.now
 
--- an effect that is made again leaves a sound store
+-- an effect that is made again leaves a sound store sound
 abbrev pub EffectsStaySound : Type 0
 EffectsStaySound =
     (v : World) (q : ℕ) (e : Effect) (c d : Config) → IsSoundStore v c.now → effect q e c ≡ Some d →
     IsSoundStore v d.now
 
--- a sound graft call is sound after each instruction that doesn't end it
+-- a sound graft call is still sound after each instruction that doesn't end it
 abbrev pub ConfigsStaySound : Type 0
 ConfigsStaySound =
     (v : World) (images : ImageTable) (p : ℕ) (c : Config) → IsSoundConfig v c →
@@ -63,7 +63,7 @@ ConfigsStaySound =
     IsSoundConfig v (micro v images p c).config
 
 -- The history after the drop of a level above 0, by an instruction or a time-out, leads to the
--- config that the drop gave, if the level's graft stood.
+-- config that the drop gave, if the level's graft was installed.
 abbrev pub FallsReplay : Meaning → Type 0
 FallsReplay m =
     (v : World) (images : ImageTable) (s : Objects) (p : ℕ) (t : Stage) (ks : List Mark)
@@ -75,13 +75,13 @@ FallsReplay m =
     is_some (now.config.now.accounts.graft q pt) ≡ true →
     config_in (replay m v images s p t (fallen now ks o.effects (suc d))) ≡ Some o.config
 
--- p's graft call is the same, as far as it can tell, in another kernel
+-- p's graft call is the same in another kernel, as far as it can tell
 abbrev pub IsStable : Meaning → (k l : Kernel) → ℕ → Type 0
 IsStable m k l p = (c : Config) → config_of m k p ≡ Some c → (d : Config)
     × (config_of m l p ≡ Some d) × ConfigsAlike c d
 
--- While a call is in a graft, no step and no drop of another call changes its replay: the same
--- levels, and the same values of all that they hold.
+-- While a call is in a graft, no step and no drop of another call changes its replay: it has the
+-- same levels, and the same values of all that they hold.
 pub record Stability (m : Meaning) : Type 0 where
   pub steps : (r : Run) (p q : ℕ) (c : Call) → Laws m → IsSoundKernel m r.kernel →
       HasWholeBlocks r.kernel.world r.blocks → p ≢ q →
@@ -93,8 +93,8 @@ pub record Stability (m : Meaning) : Type 0 where
 
 -- ---- rest
 
--- Settling from a sound kernel rests after at most 256 steps, and after a tick's 288 actions no
--- count has reached its patience.
+-- Settling from a sound kernel comes to rest after at most 256 steps, and after a tick's 288
+-- actions no count has reached its patience.
 pub record Rests (m : Meaning) : Type 0 where
   pub settling : (r : Run) → Laws m → IsSoundKernel m r.kernel →
       HasWholeBlocks r.kernel.world r.blocks → IsAtRest m (settled m r).kernel
@@ -104,8 +104,8 @@ pub record Rests (m : Meaning) : Type 0 where
 
 -- ---- the store in place
 
--- The store in place has what a call holds exclusively as the call's replay has it, and what none
--- holds so as it is committed.
+-- In the store in place, what a call holds exclusively is as in the call's replay, and what no call
+-- holds exclusively is as committed.
 pub record InPlaceReads (m : Meaning) : Type 0 where
   pub own : (k : Kernel) (p : ℕ) (c : Config) (o : Object) → IsSoundKernel m k →
       config_of m k p ≡ Some c →
@@ -113,7 +113,7 @@ pub record InPlaceReads (m : Meaning) : Type 0 where
   pub committed : (k : Kernel) (o : Object) →
       ((p : ℕ) → is_changed_in (levels_of m k p) o ≡ false) → SameAt o (in_place m k) k.objects
 
--- Undoing the cut calls' records, newest first within each call and call after call in any order,
+-- Undoing the records of the cut calls, newest first within each call and the calls in any order,
 -- turns the store in place into the store below the cut.
 abbrev pub UndoneIsBelow : Meaning → Type 0
 UndoneIsBelow m =

@@ -1,5 +1,5 @@
--- Which system calls are refused at once, before they join the order: refusals that need no object,
--- the least number first.
+-- Which system calls are refused at once, before they join the order: the refusals that need no
+-- object, the lowest number first.
 use Rattle.std.specs.Prelude.{ℕ, ◌+◌, ◌==◌, Bool, cond, not, ◌||◌, nat_le, nat_lt, length, is_some}
 use Rattle.std.specs.Prelude.{Option, Some, None, Result, Ok, Err}
 use Rattle.kernel_data.specs.declared.SysCall.{SysCall}
@@ -13,7 +13,7 @@ use Rattle.kernel_data.specs.declared.Refusal.TheVariants.{NoFile, BadIndex, NoI
 use Rattle.kernel_data.specs.World.{World, ImageTable, file_named}
 use Rattle.kernel_model.specs.Meaning.{Stage, stage}
 
--- the highest point of the calls that are built
+-- the highest point for which the plain calls install grafts; above it are events and streams
 abbrev pub TOP_POINT : ℕ
 TOP_POINT = 5
 
@@ -21,13 +21,13 @@ TOP_POINT = 5
 abbrev pub policy_count : ℕ → ℕ
 policy_count kind = cond (kind == 0) 3 2
 
--- a refusal where it holds, else the next one
+-- a refusal if it holds, otherwise the next one
 abbrev pub refused : Bool → Refusal → Option Refusal → Option Refusal
 refused holds refusal next = cond holds (Some refusal) next
 
--- the refusal of least number of a call of process p that needs no object, where points go up to
--- this one; docs/CALLS.md lists them, call by call. Calls of event points and of streams are of
--- other tables, and refused here.
+-- the refusal with the lowest number, among those that need no object, of a call of process p, if
+-- points go up to this one; docs/CALLS.md lists them, call by call. Calls of event points and of
+-- streams belong to other tables, and are refused here.
 abbrev pub call_refusal : (top : ℕ) → World → ImageTable → ℕ → SysCall → Option Refusal
 call_refusal top v images p Exit = refused (p == 0) Denied None
 call_refusal top v images p (OpenName name) =

@@ -1,7 +1,7 @@
--- The table of event points. Points 6 to 13 of a process are those of the ports 0 to 7: a graft that
--- stands there handles the events of its port. `serve` hands bytes to the handlers of a port, one
--- after the other, and `install`, `remove`, `fund` and `bill` at these points are calls of this
--- table. docs/CALLS.md tells them.
+-- The table of event points. Points 6 to 13 of a process belong to the ports 0 to 7: a graft that
+-- is installed there handles the events of its port. `serve` hands bytes to the handlers of a port,
+-- one after the other, and `install`, `remove`, `fund` and `bill` at these points are calls of this
+-- table. docs/CALLS.md describes them.
 use Rattle.std.specs.Prelude.{ℕ, zero, suc, ◌+◌, Bool, true, false, cond, ◌&&◌, ◌||◌, ◌==◌, nat_le}
 use Rattle.std.specs.Prelude.{nat_lt, List, [], ◌∷◌, ◌++◌, length, Option, Some, None, option_map}
 use Rattle.std.specs.List.{list_all}
@@ -37,7 +37,7 @@ point_of_port port = 6 + port
 abbrev pub LAST_EVENT_POINT : ℕ
 LAST_EVENT_POINT = 13
 
--- a point is that of a port
+-- the point belongs to a port
 abbrev pub is_event_point : ℕ → Bool
 is_event_point pt = nat_le 6 pt && nat_le pt LAST_EVENT_POINT
 
@@ -52,8 +52,8 @@ is_event_call c = false
 
 -- ---- early refusals
 
--- the refusal of least number that needs no object: a port above 7, more bytes than a block has,
--- and those of the calls on grafts at any point up to 13
+-- the refusal with the lowest number, among those that need no object: a port above 7, more bytes
+-- than a block has, and those of the calls on grafts at points 6 to 13
 abbrev pub event_refusal : World → ImageTable → ℕ → SysCall → Option Refusal
 event_refusal v images p (Serve port bytes) =
     refused (nat_le PORTS port || nat_lt 512 (length bytes)) BadIndex None
@@ -62,17 +62,17 @@ event_refusal v images p c =
 
 -- ---- objects and points
 
--- the queue, which has the handlers, where no graft stands
+-- the queue, which has the handlers, if no graft is installed
 abbrev pub handlers_unless : Option GraftValue → List Need
 handlers_unless None = exclusive Queue ∷ []
 handlers_unless (Some g) = []
 
--- the queue, which has the handlers, where a graft stands
+-- the queue, which has the handlers, if a graft is installed
 abbrev pub handlers_where : Option GraftValue → List Need
 handlers_where None = []
 handlers_where (Some g) = exclusive Queue ∷ []
 
--- first the queue, which has the handlers; then the point of the next of them
+-- first the queue, which has the handlers; then the point of the next handler
 abbrev pub serve_needs : ℕ → Objects → List (ℕ × ℕ) → List Need
 serve_needs zero s handlers = shared Queue ∷ []
 serve_needs (suc n) s [] = []
@@ -89,7 +89,8 @@ event_needs (Fund pt kind x) n handlers s p = point_needs s.accounts p pt
 event_needs (Bill pt) n handlers s p = exclusive (Graft p pt) ∷ []
 event_needs c n handlers s p = []
 
--- the point of a handler is asked with the port, how many bytes the event has, and who serves it
+-- the point of a handler is asked with the port, how many bytes the event has, and which process
+-- serves it
 abbrev pub serve_ask : ℕ → (port count p : ℕ) → List (ℕ × ℕ) → Option Point
 serve_ask zero port count p handlers = None
 serve_ask (suc n) port count p [] = None
@@ -112,8 +113,8 @@ event_feed c = []
 abbrev pub with_handlers : List (ℕ × ℕ) → Objects → Objects
 with_handlers handlers s = record s { things = record (s.things) { handlers = handlers } }
 
--- a graft is put at an event point where none stands, and becomes the last handler of its port,
--- where that has room
+-- a graft is installed at an event point that has none, and becomes the last handler of its port,
+-- if that has room
 abbrev pub handler_joins : Objects → (p pt : ℕ) → GraftValue → Option GraftValue → Blocks → Piece
 handler_joins s p pt g (Some h) blocks = refuses s blocks Taken
 handler_joins s p pt g None blocks =
@@ -130,19 +131,19 @@ handler_leaves s p pt (Some g) blocks =
     leaves (with_handlers (handlers_without p pt s.things.handlers)
     (record s { accounts = removed p pt s.accounts })) blocks well
 
--- a `serve` goes on with these handlers, or ends with how many answered
+-- a `serve` goes on with these handlers, or ends with the number of those that answered
 abbrev pub serves_on : SysCall → ℕ → List (ℕ × ℕ) → (answers : ℕ) → After
 serves_on c n [] answers = EndsWith (One answers)
 serves_on c n (h ∷ hs) answers =
     Continues (record { call = c; piece = n; handlers = h ∷ hs; answers = answers; bytes = [] })
 
--- one more where there is an answer
+-- one more if there is an answer
 abbrev pub answers_with : Option Answer → ℕ → ℕ
 answers_with None n = n
 answers_with (Some a) n = suc n
 
--- The first piece of a `serve` takes the handlers of its port into the call. Each later one asks
--- the next of them: its answer's bytes are given, and nothing by default.
+-- The first piece of a `serve` takes the handlers of its port into the call. Each later piece asks
+-- the next of them: it gives the bytes of the answer, and nothing by default.
 abbrev pub serve_piece : ℕ → SysCall → (port : ℕ) → List (ℕ × ℕ) → (answers : ℕ) → Objects →
     Blocks → Option Answer → Piece
 serve_piece zero c port handlers answers s blocks answer =
@@ -167,30 +168,30 @@ event_piece c t s blocks p answer = refuses s blocks BadPoint
 
 -- ---- stages
 
--- a handler whose piece is to come is one of the port
+-- a handler whose piece is still to come belongs to the port
 abbrev pub is_of_port : ℕ → ℕ × ℕ → Bool
 is_of_port port h = nat_lt h.0 16 && h.1 == point_of_port port
 
--- a `serve` stands before its first piece, or before that of a handler, of at most eight with those
--- that came before; of these at most as many answered
+-- a `serve` is before its first piece, or before the piece of a handler: there are at most eight
+-- handlers, with those that were asked before, and at most as many answers as were asked
 abbrev pub serve_fits : ℕ → (port : ℕ) → List (ℕ × ℕ) → (answers : ℕ) → Bool
 serve_fits zero port handlers answers = true
 serve_fits (suc n) port handlers answers =
     nat_le 1 (length handlers) && nat_le (n + length handlers) 8 && nat_le answers n
     && list_all (is_of_port port) handlers
 
--- a call may stand at this stage: only those of this table
+-- a call of this table, and no other, may be at this stage
 abbrev pub event_fits : SysCall → Stage → Bool
 event_fits (Serve port bytes) t =
     nat_lt port PORTS && serve_fits t.piece port t.handlers t.answers
 event_fits c t = is_event_call c && t.piece == 0
 
--- how many pieces are left: of a `serve` one for each handler, and at first at most nine
+-- how many pieces are left: for a `serve` one for each handler, and at first at most nine
 abbrev pub event_left : SysCall → Stage → ℕ
 event_left (Serve port bytes) t = cond (t.piece == 0) 9 (length t.handlers)
 event_left c t = 1
 
--- the meaning of the calls of event points; all others are refused
+-- the meaning of the calls of event points; all other calls are refused
 abbrev pub event_points : Meaning
 event_points =
     record {

@@ -1,5 +1,5 @@
 -- One event of the abstract kernel: a tick, some instructions, or a system call; and its notes in
--- their order.
+-- order.
 use Rattle.std.specs.Prelude.{ℕ, zero, suc, Bool, true, false, not, ◌&&◌, ◌==◌, nat_le, List, []}
 use Rattle.std.specs.Prelude.{◌∷◌, Option, Some, None, map, length, Result, Ok, Err}
 use Rattle.std.specs.List.{list_any}
@@ -41,11 +41,11 @@ object_kind (Pol k) = 7
 abbrev pub MOST_STEPS : ℕ
 MOST_STEPS = 65536
 
--- a process stands in the order of waiting
+-- a process is in the order of waiting
 abbrev pub in_order : ℕ → List Waiter → Bool
 in_order p es = list_any (λ (e : Waiter). e.process == p) es
 
--- ---- where a call stands at the end of an event
+-- ---- where a call is at the end of an event
 
 -- the note of a call that waits
 abbrev pub waits_note : ℕ → Option Blocker → Run → Run
@@ -95,7 +95,7 @@ innermost [] = None
 innermost (l ∷ ls) = Some (length ls)
 
 module _ (m : Meaning) where
-  -- where the call of a process stands, if it is still in flight: it waits, or it is in a graft
+  -- where the call of a process is, if it is still in flight: it waits, or it is in a graft
   abbrev pub last_note : ℕ → Option Call → Run → Run
   last_note p None r = r
   last_note p (Some c) r =
@@ -125,9 +125,8 @@ module _ (m : Meaning) where
 
   -- ---- steps
 
-  -- Up to n instructions of the call of p are taken while it has a level and isn't in the order;
-  -- one that is blocked joins the order, and no more are taken. The number tells how many were
-  -- taken.
+  -- The call of p takes up to n instructions while it has a level and isn't in the order; when one
+  -- is blocked, the call joins the order and takes no more. The number says how many it took.
   abbrev pub steps : ℕ → ℕ → ℕ → Run → ℕ × Run
   steps p zero taken r = (taken, r)
   steps p (suc n) taken r =
@@ -152,7 +151,7 @@ module _ (m : Meaning) where
       requeue p (outcome_step m p c t ks
       (drop_level r.kernel.world t.config.now t.config.levels d cause) r)
 
-  -- a level of a call that stands at a history is dropped
+  -- a level of a call that has a history is dropped
   abbrev pub drop_marked : ℕ → Call → Option (List Mark) → Option Trace → Option ℕ → Cause → Run →
       Run
   drop_marked p c (Some ks) (Some t) d cause r = drop_at p c ks t d cause r
@@ -164,12 +163,13 @@ module _ (m : Meaning) where
   drop_call p (Some c) d cause r =
       drop_marked p c c.marks (trace_of m r.kernel p (Some c)) d cause r
 
-  -- a waiter for a user lock without a level ends
+  -- a call that waits for a user lock and has no level ends
   abbrev pub times_out : ℕ → Blocker → Call → Run → Run
   times_out p b c r =
       requeue p (noted (Refused c.number (TimedOut b.object b.holder)) (with_call p None r))
 
-  -- who waits too long for a user lock loses the innermost level or, without a level, is refused
+  -- a call that waits too long for a user lock loses its innermost level or, without a level, is
+  -- refused
   abbrev pub waiter_action : ℕ → Blocker → Option Call → Run → Run
   waiter_action p b None r = r
   waiter_action p b (Some c) r =
@@ -179,8 +179,8 @@ module _ (m : Meaning) where
             (TimeOut b.object b.holder) r
       ]
 
-  -- a call that blocks for too long loses the outermost of its levels whose hold conflicts, with
-  -- those inside
+  -- a call that blocks another for too long loses the outermost of its levels whose hold conflicts,
+  -- and those inside
   abbrev pub holder_action : ℕ → Blocker → Run → Run
   holder_action p b r =
       drop_call b.holder (r.kernel.call b.holder)
@@ -197,7 +197,7 @@ module _ (m : Meaning) where
   entry_action e None r = r
   entry_action e (Some b) r = action e.process b b.call r
 
-  -- at most so many actions, as long as a count has reached its patience
+  -- at most the given number of actions, as long as a count has reached its patience
   abbrev pub actions : ℕ → Run → Run
   actions zero r = r
   actions (suc n) r =
@@ -227,8 +227,8 @@ module _ (m : Meaning) where
         | true ↦ sys_event number p call (r.kernel.call p) r
       ]
 
-  -- An event changes the kernel and the disk's blocks and leaves notes in order; io says of each of
-  -- its calls of the disk whether it fails.
+  -- An event changes the kernel and the disk's blocks, and leaves notes in order; io says for each
+  -- of its disk calls whether it fails.
   abbrev pub event : Kernel → Blocks → ℕ → Event → List Bool → Run
   event k blocks number e io =
       event_on number e (record { kernel = k; blocks = blocks; notes = []; io = io })

@@ -1,5 +1,5 @@
--- How a block comes into a frame of the cache, and what is done with its frame then. A fetch makes
--- at most two calls of the disk: it reads the block, and writes what the evicted frame held.
+-- How a block gets into a frame of the cache, and what is then done with its frame. A fetch makes
+-- at most two disk calls: it reads the block, and writes what the evicted frame held.
 use Rattle.std.specs.Prelude.{ℕ, ◌+◌, ◌==◌, Bool, true, false, cond, not, List, [], ◌∷◌, ◌++◌}
 use Rattle.std.specs.Prelude.{Option, Some, None, map, filter, length, slice_index, take, drop}
 use Rattle.kernel_data.specs.World.{World, Blocks}
@@ -8,8 +8,8 @@ use Rattle.kernel_data.specs.Policies.{or_zero, victim_among}
 use Rattle.kernel_model.specs.Meaning.{disk_fails}
 use Rattle.kernel_model.specs.Needs.{frame_of_block, free_frame}
 
--- What a fetch comes to: the cache, the disk's blocks and the frame that holds the block, or a
--- failed call of the disk; and how many calls of the disk it made.
+-- What a fetch returns: the cache, the disk's blocks and the frame that holds the block, or a
+-- failed disk call; and how many disk calls it made.
 pub data Fetched : Type 0 where
   Got : CacheValue → Blocks → (frame calls : ℕ) → Fetched
   Failed : (calls : ℕ) → Fetched
@@ -36,7 +36,7 @@ new_frame p b bytes = record { owner = p; block = b; dirty = false; mark = 0; by
 abbrev pub filled : ℕ → FrameValue → CacheValue → CacheValue
 filled f value c = record { frame = at f (Some value) c.frame; lru = newest f c.lru }
 
--- frame f holds this in the place of what it held, once it changed places with the candidate g
+-- frame f holds this instead of what it held, after it changed places with the candidate g
 abbrev pub replaced : (f g : ℕ) → FrameValue → CacheValue → CacheValue
 replaced f g value c = filled f value (record c { lru = swapped f g c.lru })
 
@@ -47,8 +47,8 @@ abbrev pub chosen_by : Option (List ℕ) → ℕ → ℕ
 chosen_by None default = default
 chosen_by (Some answer) default = slice_index answer 0
 
--- what an evicted frame held is written where it is dirty, by the disk's second call; then the
--- cache is this one
+-- what an evicted frame held is written if it is dirty, by the second disk call; then the cache is
+-- this one
 abbrev pub evict : Option FrameValue → ℕ → CacheValue → Blocks → List Bool → Fetched
 evict None f after blocks io = Got after blocks f 1
 evict (Some old) f after blocks io =
@@ -60,7 +60,7 @@ evict (Some old) f after blocks io =
       ]
     ]
 
--- where a block that was read goes: to a free frame, or to the chosen one, which is evicted
+-- where a block that was read goes: into a free frame, or into the chosen one, which is evicted
 abbrev pub place_block : Option ℕ → (p b : ℕ) → (chosen candidate : ℕ) → CacheValue → Blocks →
     List Bool → Fetched
 place_block (Some f) p b chosen candidate c blocks io =
@@ -68,7 +68,7 @@ place_block (Some f) p b chosen candidate c blocks io =
 place_block None p b chosen candidate c blocks io =
     evict (c.frame chosen) chosen (replaced chosen candidate (new_frame p b (blocks b)) c) blocks io
 
--- a block that no frame holds is read, by the disk's first call
+-- a block that no frame holds is read, by the first disk call
 abbrev pub read_block : World → PolValue → (p b : ℕ) → Option (List ℕ) → CacheValue → Blocks →
     List Bool → Fetched
 read_block v pol p b answer c blocks io =
@@ -85,14 +85,15 @@ abbrev pub fetch_by : Option ℕ → World → PolValue → (p b : ℕ) → Opti
 fetch_by (Some f) v pol p b answer c blocks io = Got (used f c) blocks f 0
 fetch_by None v pol p b answer c blocks io = read_block v pol p b answer c blocks io
 
--- A block is fetched for process p into the frame that holds it, which becomes the newest; else
--- into the lowest free frame; else into the frame that the answer chooses, which first changes
--- places with the candidate in the order of use and is written to the disk where it is dirty.
+-- A block is fetched for process p into the frame that holds it, which becomes the newest;
+-- otherwise into the lowest free frame; otherwise into the frame that the answer chooses, which
+-- first changes places with the candidate in the order of use and is written to the disk if it is
+-- dirty.
 abbrev pub fetch : World → PolValue → (p b : ℕ) → Option (List ℕ) → CacheValue → Blocks →
     List Bool → Fetched
 fetch v pol p b answer c blocks io = fetch_by (frame_of_block c b) v pol p b answer c blocks io
 
--- a block that is read ahead: where a frame holds it already, the order of use stays
+-- a block that is read ahead: if a frame holds it already, the order of use stays the same
 abbrev pub fetch_ahead_by : Option ℕ → World → PolValue → (p b : ℕ) → Option (List ℕ) → CacheValue →
     Blocks → List Bool → Fetched
 fetch_ahead_by (Some f) v pol p b answer c blocks io = Got c blocks f 0
@@ -114,7 +115,7 @@ bytes_of c f = elim (c.frame f) [ None ↦ [] | Some r ↦ r.bytes ]
 abbrev pub bytes_with : (off : ℕ) → (new old : List ℕ) → List ℕ
 bytes_with off new old = take off old ++ new ++ drop (off + length new) old
 
--- a frame with bytes put in, which is dirty then
+-- a frame with these bytes put in, which is then dirty
 abbrev pub patched : (off : ℕ) → List ℕ → Option FrameValue → Option FrameValue
 patched off new None = None
 patched off new (Some f) = Some (record f { dirty = true; bytes = bytes_with off new f.bytes })
@@ -127,7 +128,7 @@ with_patch f off new c = record c { frame = at f (patched off new (c.frame f)) c
 abbrev pub cleaned : ℕ → FrameValue → CacheValue → CacheValue
 cleaned f value c = record c { frame = at f (Some (record value { dirty = false })) c.frame }
 
--- what a frame holds, if that is dirty
+-- what a frame holds, if it is dirty
 abbrev pub dirty_value : Option FrameValue → Option FrameValue
 dirty_value None = None
 dirty_value (Some value) = cond value.dirty (Some value) None

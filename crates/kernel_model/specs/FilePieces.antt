@@ -17,16 +17,16 @@ use Rattle.kernel_model.specs.Fetch.{cleaned, dirty_value}
 
 -- ---- what pieces leave
 
--- a piece that leaves the disk alone and gives no bytes
+-- a piece that makes no disk call and gives no bytes
 abbrev pub leaves : Objects → Blocks → After → Piece
 leaves s blocks after =
     record { objects = s; blocks = blocks; gave = None; after = after; calls = 0 }
 
--- a piece that is refused, and leaves all as it was
+-- a piece that is refused, and leaves everything as it was
 abbrev pub refuses : Objects → Blocks → Refusal → Piece
 refuses s blocks why = leaves s blocks (Fails why)
 
--- a piece of which a call of the disk failed, the last of so many
+-- a piece in which a disk call failed, the last of this many
 abbrev pub disk_failed : Objects → Blocks → ℕ → Piece
 disk_failed s blocks calls = record (refuses s blocks DiskFault) { calls = calls }
 
@@ -44,7 +44,7 @@ with_file p fd o s = with_things (record (s.things) { file = at2 p fd o s.things
 
 -- ---- open and close
 
--- the lowest descriptor from fd on that is free, among n
+-- the lowest free descriptor among the n from fd on
 abbrev pub free_descriptor : Things → (p n fd : ℕ) → Option ℕ
 free_descriptor w p zero fd = None
 free_descriptor w p (suc n) fd =
@@ -73,16 +73,16 @@ abbrev pub unless_zero : Stage → ℕ → After
 unless_zero t zero = well
 unless_zero t (suc n) = Continues t
 
--- an open file after the read of its block i: whether that was the next one, and which is the next
+-- an open file after its block i is read: whether that was the next block, and which is the next
 -- now
 abbrev pub read_on : ℕ → OpenRow → OpenRow
 read_on i o = record o { next = i + 1; seq = i == o.next }
 
--- an open file with this to be read ahead
+-- an open file with these blocks to be read ahead
 abbrev pub with_ahead : (start count : ℕ) → OpenRow → OpenRow
 with_ahead start count o = record o { start = start; count = count }
 
--- the first piece, once the block is fetched: its bytes are given
+-- the first piece, after the block is fetched: its bytes are given
 abbrev pub read_first : Objects → Blocks → (p fd i off len : ℕ) → OpenRow → Fetched → Piece
 read_first s blocks p fd i off len o (Failed calls) = disk_failed s blocks calls
 read_first s blocks p fd i off len o (Got cache after frame calls) =
@@ -100,7 +100,7 @@ read_second s blocks p fd i off len o ahead =
     leaves (with_file p fd (Some (with_ahead ahead.0 ahead.1 o)) s) blocks
     (unless_zero (stage (Read fd i off len) 2) ahead.1)
 
--- a later piece, once a block ahead is fetched
+-- a later piece, after a block ahead is fetched
 abbrev pub read_third : Objects → Blocks → (p fd i off len : ℕ) → OpenRow → Fetched → Piece
 read_third s blocks p fd i off len o (Failed calls) = disk_failed s blocks calls
 read_third s blocks p fd i off len o (Got cache after frame calls) =
@@ -144,7 +144,7 @@ read_piece (suc (suc n)) v s blocks p fd i off len (Some o) answer io =
 
 -- ---- write and sync
 
--- a write, once its block is fetched: the bytes are put into the frame
+-- a write, after its block is fetched: the bytes are put into the frame
 abbrev pub write_fetched : Objects → Blocks → (off : ℕ) → List ℕ → Fetched → Piece
 write_fetched s blocks off new (Failed calls) = disk_failed s blocks calls
 write_fetched s blocks off new (Got cache after frame calls) =
@@ -157,9 +157,9 @@ write_piece (Err refusal) v s blocks p off new answer io = refuses s blocks refu
 write_piece (Ok b) v s blocks p off new answer io =
     write_fetched s blocks off new (fetch v (s.things.pol 1) p b answer s.things.cache blocks io)
 
--- Writes the dirty frames among the n from f on, in order, of which so many were written before;
--- each is clean then, and the call answers how many were written in all. Where a call of the disk
--- fails, what was written before stays written.
+-- Writes the dirty frames among the n from f on, in order, when this many were written before; each
+-- is then clean, and the call answers how many were written in all. If a disk call fails, what was
+-- written before stays written.
 abbrev pub sync_from : (n f written : ℕ) → Objects → Blocks → List Bool → Piece
 sync_from zero f written s blocks io =
     record (leaves s blocks (EndsWith (One written))) { calls = written }

@@ -1,6 +1,7 @@
--- A call in a graft is kept as a history of marks, and run again from the committed state whenever
--- it is asked for. A level that was dropped on the way stands in the history as one mark, with what
--- its levels did that outlives them. So nothing that read an object since let go is ever run again.
+-- A call in a graft is kept as a history of marks, and is run again from the committed state
+-- whenever it is needed. A level that was dropped on the way is one mark of the history, with those
+-- effects of its levels that outlive them. So nothing that read an object is run again after that
+-- object was let go.
 use Rattle.std.specs.Prelude.{ℕ, suc, Bool, true, false, cond, ◌&&◌, ◌==◌, not, nat_le, List, []}
 use Rattle.std.specs.Prelude.{◌∷◌, ◌++◌, Option, Some, None, is_some, length, take, reverse}
 use Rattle.kernel_data.specs.declared.Need.{Need}
@@ -19,13 +20,13 @@ use Rattle.kernel_model.specs.GraftStep.{micro}
 
 -- ---- histories
 
--- a mark: an instruction, or an ask whose level was dropped, with what its levels did that outlives
--- them
+-- a mark: an instruction, or an ask whose level was dropped, with those effects of its levels that
+-- outlive them
 pub data Mark : Type 0 where
   Stepped : Mark
   Fell : List Effect → Mark
 
--- what came about since a level began: how many marks stand before its ask, and the effects since,
+-- what happened since a level began: how many marks are before its ask, and the effects since then,
 -- newest first
 pub record Past : Type 0 where
   pub began : ℕ
@@ -49,7 +50,7 @@ begin_at images s p base feed a =
           ∷ [];
     }
 
--- the same where a point is asked
+-- the same if a point is asked
 abbrev pub begin_with : ImageTable → Objects → ℕ → List Need → (feed : List ℕ) → Option Point →
     Option Config
 begin_with images s p base feed None = None
@@ -66,7 +67,7 @@ first_trace c = record { config = c; marks = 0; pasts = record { began = 0; effe
 
 -- ---- an instruction's mark
 
--- effects, oldest first, come to the innermost level's past
+-- effects, oldest first, are added to the innermost level's past
 abbrev pub with_effects : List Effect → List Past → List Past
 with_effects es [] = []
 with_effects es (a ∷ outer) = record a { effects = reverse es ++ a.effects } ∷ outer
@@ -77,14 +78,14 @@ joined_pasts [] = []
 joined_pasts (a ∷ []) = a ∷ []
 joined_pasts (a ∷ b ∷ rest) = record b { effects = a.effects ++ b.effects } ∷ rest
 
--- the pasts after an instruction, by how many levels there were before it and are after it; n marks
--- stand before it
+-- the pasts after an instruction, by the number of levels before it and the number after it; n
+-- marks are before it
 abbrev pub pasts_after : (n before after : ℕ) → List Past → List Past
 pasts_after n before after ps =
     cond (after == suc before) (record { began = n; effects = [] } ∷ ps)
     (cond (before == suc after) (joined_pasts ps) ps)
 
--- the trace after an instruction, where the call goes on
+-- the trace after an instruction, if the call goes on
 abbrev pub trace_after : Trace → Outcome → Trace
 trace_after t r =
     record {
@@ -94,13 +95,13 @@ trace_after t r =
           (with_effects r.effects t.pasts);
     }
 
--- the trace after an instruction; there is none where it ends a level otherwise than by an answer
+-- the trace after an instruction; there is none if it ends a level in another way than by an answer
 abbrev pub stepped : Trace → Outcome → Option Trace
 stepped t r = elim (is_going_on r.said) [ true ↦ Some (trace_after t r) | false ↦ None ]
 
 -- ---- a fallen level's mark
 
--- a graft of q stands that level 0 holds
+-- a graft of q is installed, and level 0 holds it
 abbrev pub is_found : (q pt : ℕ) → Config → Bool
 is_found q pt c = is_some (c.now.accounts.graft q pt)
     && is_held (outermost_touched c.levels (Graft q pt))
@@ -109,14 +110,14 @@ is_found q pt c = is_some (c.now.accounts.graft q pt)
 abbrev pub with_accounts_of : Accounts → Config → Config
 with_accounts_of a c = record c { now = with_accounts a c.now }
 
--- a config, where the test holds
+-- a config, if the test holds
 abbrev pub config_if : Bool → Config → Option Config
 config_if true c = Some c
 config_if false c = None
 
 -- An effect of a graft of q is made again: an ask touches its graft for level 0, a charge is taken
--- from the payer, a removed graft is taken out. A charge or a removal can't be made again where the
--- graft doesn't stand, level 0 doesn't hold it, or nothing is left to charge.
+-- from the payer, a removed graft is taken out. A charge or a removal can't be made again if the
+-- graft isn't installed, level 0 doesn't hold it, or nothing is left to charge.
 abbrev pub effect : ℕ → Effect → Config → Option Config
 effect q (Asked pt) c = Some (record c { levels = touch_outermost (Graft q pt) c.levels })
 effect q (Charged pt k) c =
@@ -151,7 +152,7 @@ trace_fallen v es u c =
       pasts = with_effects es (outer_pasts u.pasts);
     }
 
--- the same, where the effects can be made again
+-- the same, if the effects can be made again
 abbrev pub fallen_if : World → List Effect → Trace → Option Config → Option Trace
 fallen_if v es u None = None
 fallen_if v es u (Some c) = Some (trace_fallen v es u c)
@@ -161,7 +162,7 @@ abbrev pub owner_among : List Level → ℕ
 owner_among [] = 0
 owner_among (l ∷ ls) = l.owner
 
--- a level that fell, where u is the trace after its ask, which began a level, and n is how many
+-- a level that fell: u is the trace after its ask, which began a level, and n is how many levels
 -- there were before
 abbrev pub fell_on : World → List Effect → (n : ℕ) → Trace → Option Trace
 fell_on v es n u =
@@ -187,8 +188,8 @@ marks_on v images p [] t = Some t
 marks_on v images p (k ∷ ks) t =
     elim (mark_on v images p k t) [ None ↦ None | Some u ↦ marks_on v images p ks u ]
 
--- Replaying a history runs its marks, in order, from the committed state of this moment. It knows
--- no other call.
+-- Replaying a history runs its marks, in order, from the current committed state. It knows no other
+-- call.
 abbrev pub replay : Meaning → World → ImageTable → Objects → ℕ → Stage → List Mark → Option Trace
 replay m v images s p t ks =
     elim (begin m v images s p t) [ None ↦ None | Some c ↦ marks_on v images p ks (first_trace c) ]
@@ -201,15 +202,15 @@ effects_since d [] = []
 effects_since d (a ∷ outer) =
     elim (nat_le d (length outer)) [ true ↦ a.effects ++ effects_since d outer | false ↦ [] ]
 
--- how many marks stand before the ask that began level d
+-- how many marks are before the ask that began level d
 abbrev pub marks_before : ℕ → List Past → ℕ
 marks_before d [] = 0
 marks_before d (a ∷ outer) =
     elim (length outer == d) [ true ↦ a.began | false ↦ marks_before d outer ]
 
--- When level d above 0 is dropped, the marks from its ask on are replaced by one, which holds what
--- its levels and those inside asked, were charged and lost, in order, the drop's own, `last`,
--- behind them.
+-- When level d above 0 is dropped, one mark replaces the marks from its ask on. It holds what its
+-- levels and those inside asked, were charged and lost, in order, followed by the drop's own,
+-- `last`.
 abbrev pub fallen : Trace → List Mark → (last : List Effect) → (d : ℕ) → List Mark
 fallen t ks last d = take (marks_before d t.pasts) ks
     ++ Fell (reverse (effects_since d t.pasts) ++ last) ∷ []

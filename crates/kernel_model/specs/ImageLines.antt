@@ -1,4 +1,4 @@
--- What an `image` line makes of a kernel, and its answer.
+-- How an `image` line changes a kernel, and what it answers.
 use Rattle.std.specs.Prelude.{ℕ, true, false, nat_lt, List, Option, None, Some, Result, Ok, Err, codes}
 use Rattle.kernel_data.specs.Objects.{at}
 use Rattle.kernel_data.specs.World.{Image}
@@ -10,12 +10,12 @@ use Rattle.kernel_model.specs.Kernel.{Kernel}
 abbrev pub add_image : ℕ → Image → Kernel → Kernel
 add_image slot i k = record k { images = at slot (Some i) k.images }
 
--- an image in a slot that is free, or why the bytes are none
+-- an image is put into a free slot, or the answer says why the bytes are no image
 abbrev pub image_added : ℕ → Result Image LoadFault → Kernel → Kernel × List ℕ
 image_added slot (Err fault) k = (k, load_fault_text fault)
 image_added slot (Ok i) k = (add_image slot i k, image_text i)
 
--- what an image line makes of a kernel, and its answer, where these bytes load so
+-- a kernel after an image line, and the answer, if this is the result of loading its bytes
 abbrev pub image_answer : ℕ → Result Image LoadFault → Kernel → Kernel × List ℕ
 image_answer slot loaded k =
     elim (nat_lt 31 slot) [

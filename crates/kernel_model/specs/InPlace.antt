@@ -1,4 +1,4 @@
--- What a kernel that keeps one store holds in it: the committed state, with what each call holds
+-- The one store of a kernel that works in place: the committed state, with what each call holds
 -- exclusively as that call sees it. Below a cut, a call's objects are as the cut level found them.
 use Rattle.std.specs.Prelude.{ℕ, Bool, List, [], ◌∷◌, Option, Some, None}
 use Rattle.std.specs.List.{list_any}
@@ -12,7 +12,8 @@ use Rattle.kernel_model.specs.UndoLog.{undo_log, undo_on, records_from}
 use Rattle.kernel_model.specs.Kernel.{Kernel}
 use Rattle.kernel_model.specs.Blocking.{config_of, levels_of}
 
--- a cut: for some of the calls in flight a level, from which on inward what was done is left out
+-- a cut: for some of the calls in flight a level; what this level and those further inward did is
+-- left out
 abbrev pub Cut : Type 0
 Cut = (process : ℕ) → Option ℕ
 
@@ -24,22 +25,24 @@ no_cut p = None
 abbrev pub is_changed_in : List Level → Object → Bool
 is_changed_in ls o = list_any (λ (l : Level). is_held_exclusively (l.touched o)) ls
 
--- what a level found when it began, where there is one
+-- what a level found when it began, if there is a level
 abbrev pub kept_of : Option Level → Things → Things
 kept_of None w = w
 kept_of (Some l) w = l.kept
 
--- a call's working state below a cut: what the cut level found, but accounts and grafts as they are
+-- a call's working state below a cut: the things as the cut level found them, but accounts and
+-- grafts as they are now
 abbrev pub cut_state : Option ℕ → Config → Objects
 cut_state None c = c.now
 cut_state (Some d) c = record (c.now) { things = kept_of (level_at d c.levels) c.now.things }
 
--- a state with what a call holds exclusively as it is in the call's working state below a cut
+-- a state, with each object that a call holds exclusively as the call's working state below a cut
+-- has it
 abbrev pub over : Option Config → Option ℕ → Objects → Objects
 over None d s = s
 over (Some c) d s = mix (is_changed_in c.levels) (cut_state d c) s
 
--- an inverse that undoes a call's levels from the cut one inward, newest first
+-- a state after the records of a call, from the cut level inward, are undone, newest first
 abbrev pub undo_cut : Option ℕ → List Level → Objects → Objects
 undo_cut None ls s = s
 undo_cut (Some d) ls s = undo_on (records_from d (undo_log ls)) s
@@ -50,7 +53,7 @@ module _ (m : Meaning) where
   store_with k cut [] = k.objects
   store_with k cut (p ∷ ps) = over (config_of m k p) (cut p) (store_with k cut ps)
 
-  -- The store below a cut is the store in place, but a call that is cut has its things as the cut
+  -- The store below a cut is the store in place, except that a cut call has its things as the cut
   -- level found them.
   abbrev pub store_below : Kernel → Cut → Objects
   store_below k cut = store_with k cut processes
@@ -60,8 +63,8 @@ module _ (m : Meaning) where
   abbrev pub in_place : Kernel → Objects
   in_place k = store_below k no_cut
 
-  -- Undoing above a cut applies, for each of these calls, the last one first, its records from the
-  -- cut level on inward, newest first, to the store in place.
+  -- Undoing above a cut changes the store in place: for each of these calls, the last one first, it
+  -- undoes the records from the cut level inward, newest first.
   abbrev pub undone : Kernel → Cut → List ℕ → Objects
   undone k cut [] = in_place k
   undone k cut (p ∷ ps) = undo_cut (cut p) (levels_of m k p) (undone k cut ps)

@@ -1,6 +1,6 @@
--- The abstract kernel's whole state: what is committed, for each process its call in flight, and
--- the order of waiting. It has no lock table, no registers and no undo log: those follow from the
--- histories.
+-- The whole state of the abstract kernel: the committed state, the call in flight of each process,
+-- and the order of waiting. It has no lock table, no registers and no undo log: those follow from
+-- the histories.
 use Rattle.std.specs.Prelude.{ℕ, Bool, true, false, cond, not, ◌==◌, List, [], ◌∷◌, ◌++◌, Option}
 use Rattle.std.specs.Prelude.{Some, None, filter, drop}
 use Rattle.kernel_data.specs.declared.Object.{Object}
@@ -18,7 +18,7 @@ pub record Call : Type 0 where
   -- the number of the event that began it
   pub number : ℕ
   pub stage : Stage
-  -- its history, exactly where it has a level
+  -- its history, if and only if it has a level
   pub marks : Option (List Mark)
 
 -- what blocks a call
@@ -46,8 +46,8 @@ pub record Kernel : Type 0 where
   -- the order of waiting
   pub order : List Waiter
 
--- an event under way: the kernel, the disk's blocks, the notes so far, and what the disk's next
--- calls will do
+-- a running event: the kernel, the disk's blocks, the notes so far, and what the next disk calls
+-- will do
 pub record Run : Type 0 where
   pub kernel : Kernel
   pub blocks : Blocks
@@ -56,11 +56,11 @@ pub record Run : Type 0 where
 
 -- ---- changes
 
--- a process has this call
+-- a run in which a process has this call
 abbrev pub with_call : ℕ → Option Call → Run → Run
 with_call p c r = record r { kernel = record (r.kernel) { call = at p c r.kernel.call } }
 
--- one more note
+-- a run with one more note
 abbrev pub noted : Note → Run → Run
 noted n r = record r { notes = r.notes ++ n ∷ [] }
 
@@ -97,8 +97,8 @@ call_after c (Continues t) = Some (record { number = c.number; stage = t; marks 
 call_after c (EndsWith reply) = None
 call_after c (Fails refusal) = None
 
--- A piece of the call of p that is done is committed: its objects and blocks become the kernel's,
--- its notes are written, and the call goes on at its next stage or ends.
+-- Finishing a piece of p's call commits it: its objects and blocks become the kernel's, its notes
+-- are written, and the call goes on at its next stage or ends.
 abbrev pub finish : ℕ → Call → Piece → Run → Run
 finish p c q r =
     record {
@@ -117,16 +117,15 @@ finish p c q r =
 abbrev pub new_entry : ℕ → Waiter
 new_entry p = record { process = p; blocker = None; count = 0 }
 
--- the order less a process's entry
+-- the order without a process's entry
 abbrev pub less_entry : ℕ → List Waiter → List Waiter
 less_entry p es = filter (λ (e : Waiter). not (e.process == p)) es
 
--- the call of p joins the order at its end
+-- the call of p joins the end of the order
 abbrev pub joins : ℕ → Run → Run
 joins p r = record r { kernel = record (r.kernel) { order = r.kernel.order ++ new_entry p ∷ [] } }
 
--- after a step of p, p stands in the order exactly where its next step is a piece, and then at the
--- end
+-- after a step of p, p is in the order if and only if its next step is a piece, and then at the end
 abbrev pub requeue : ℕ → Run → Run
 requeue p r =
     record r {

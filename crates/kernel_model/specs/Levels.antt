@@ -1,5 +1,5 @@
--- A graft call is a working state and one to four levels, innermost first. This says how a level
--- begins, how its answer goes to its asker, and how it is dropped.
+-- A graft call is a working state and one to four levels, innermost first. This file says how a
+-- level begins, how its answer goes to its asker, and how it is dropped.
 use Rattle.std.specs.Prelude.{ℕ, ◌+◌, ◌*◌, min, Bool, true, false, ◌==◌, List, [], ◌∷◌, Option}
 use Rattle.std.specs.Prelude.{Some, None, length, slice_get, slice_index}
 use Rattle.kernel_data.specs.declared.Object.{Object}
@@ -34,7 +34,7 @@ pub record Level : Type 0 where
   pub args : List ℕ
   -- what its changing accessors found, newest first
   pub records : List Found
-  -- the objects as it found them when it began, accounts and grafts apart
+  -- the objects as it found them when it began, except accounts and grafts
   pub kept : Things
 
 -- a graft call: the working state and the levels, innermost first
@@ -49,22 +49,22 @@ pub data Effect : Type 0 where
   Charged : (point : ℕ) → Kind → Effect
   Removed : (point : ℕ) → Effect
 
--- what one instruction, or the drop of a level, comes to: what is said of it, the config after it,
--- its effects in order
+-- the outcome of one instruction, or of the drop of a level: what is said of it, the config after
+-- it, and its effects in order
 pub record Outcome : Type 0 where
   pub said : Micro
   pub config : Config
   pub effects : List Effect
 
--- the call goes on so
+-- the outcome if the call goes on with this state and these levels
 abbrev pub goes_on : Objects → List Level → Outcome
 goes_on w ls = record { said = Micro.Went; config = record { now = w; levels = ls }; effects = [] }
 
--- an effect before those of an outcome
+-- an outcome with one more effect in front
 abbrev pub with_effect : Effect → Outcome → Outcome
 with_effect e r = record r { effects = e ∷ r.effects }
 
--- the outcome of a call that goes on
+-- an outcome says that the call goes on
 abbrev pub is_going_on : Micro → Bool
 is_going_on Micro.Went = true
 is_going_on _ = false
@@ -95,18 +95,18 @@ abbrev pub keeps_in : Option Image → Bool
 keeps_in None = false
 keeps_in (Some i) = i.keep
 
--- the data bytes of an image by place, and zeros behind them
+-- the data bytes of an image by place, and zeros after them
 abbrev pub data_of : Option Image → ℕ → ℕ
 data_of image i = or_zero (slice_get (body_in image) i)
 
--- what a segment begins as: the bytes that were kept, where the image keeps segments and there are
--- some, and else the image's data
+-- what a segment contains at first: the bytes that were kept, if the image keeps segments and there
+-- are some; otherwise the image's data
 abbrev pub segment_with : Option Image → (keeps : Bool) → (kept : Option (ℕ → ℕ)) → ℕ → ℕ
 segment_with image true (Some bytes) = bytes
 segment_with image true None = data_of image
 segment_with image false kept = data_of image
 
--- what the segment of the graft at (q, pt) begins as
+-- what the segment of the graft at (q, pt) contains at first
 abbrev pub first_segment : ImageTable → Objects → (q pt : ℕ) → ℕ → ℕ
 first_segment images w q pt =
     let image = image_of images (w.accounts.graft q pt) in
@@ -121,10 +121,10 @@ limit_in (Some g) = g.limit
 abbrev pub base_of : (p d : ℕ) → ℕ
 base_of p d = segment_base (4 * p + d)
 
--- A level begins with its arguments in r0 to r3, its segment's base in r15 and zeros elsewhere, its
--- segment as what was kept or its image's data with zeros behind, and over that the bytes that it
--- is fed, at instruction 0, with no instruction taken and no record, and keeps the things as it
--- found them.
+-- A level begins at instruction 0, with its arguments in r0 to r3, its segment's base in r15 and
+-- zeros in the other registers. Its segment contains what was kept, or the image's data and then
+-- zeros, and over that the bytes that the level is fed. It has taken no instruction, has no record,
+-- and keeps the things as it found them.
 abbrev pub new_level : ImageTable → Objects → (p d q pt : ℕ) → (args feed : List ℕ) → Touched →
     Level
 new_level images w p d q pt args feed touched =
@@ -167,7 +167,7 @@ abbrev pub level_at : ℕ → List Level → Option Level
 level_at d [] = None
 level_at d (l ∷ ls) = elim (length ls == d) [ true ↦ Some l | false ↦ level_at d ls ]
 
--- how a level holds objects, where there is one
+-- how a level holds objects, if there is one
 abbrev pub touched_in : Option Level → Touched
 touched_in None = untouched
 touched_in (Some l) = l.touched
@@ -176,7 +176,7 @@ touched_in (Some l) = l.touched
 abbrev pub touched_at : List Level → ℕ → Touched
 touched_at ls d = touched_in (level_at d ls)
 
--- the answer of a nested ask goes to its asker: r0, and for reading ahead r1 too
+-- the answer of a nested ask goes to its asker: r0, and for read-ahead r1 too
 abbrev pub answered : PointKind → (r0 r1 : ℕ) → Machine → Machine
 answered Ahead r0 r1 m = record { regs = at 1 r1 (at 0 r0 m.regs); pc = m.pc; memory = m.memory }
 answered Victim r0 r1 m = record { regs = at 0 r0 m.regs; pc = m.pc; memory = m.memory }
@@ -195,7 +195,7 @@ answer_innermost pt r0 r1 (l ∷ ls) = with_machine (answered (kind_of pt) r0 r1
 abbrev pub body_in_segment : List ℕ → (ℕ → ℕ) → List ℕ
 body_in_segment registers memory = bytes_given (min (slice_index registers 0) 512) memory
 
--- the answer of the innermost level, which are these registers, and what its segment gives
+-- the answer of the innermost level: these registers, and the bytes that its segment gives
 abbrev pub answer_of : List ℕ → List Level → Answer
 answer_of registers [] = bare_answer registers
 answer_of registers (l ∷ ls) =
@@ -203,18 +203,18 @@ answer_of registers (l ∷ ls) =
 
 -- ---- a drop
 
--- After the drop of a level all things are as the level found them; accounts and grafts are as they
--- were, but the level's graft is taken out and its balances go back.
+-- After the drop of a level all things are as the level found them. Accounts and grafts stay as
+-- they were, except that the level's graft is removed and its balances go back.
 abbrev pub state_without : Level → Objects → Objects
 state_without l w = record { accounts = removed l.owner l.point w.accounts; things = l.kept }
 
--- the levels outside a dropped one, of which the innermost gets the default answer on the state
+-- the levels outside a dropped one; the innermost of them gets the default answer on the state
 -- after the drop
 abbrev pub asker_of : World → Level → Things → List Level → List Level
 asker_of v l w ls = let d = default_of v w l.owner l.point in answer_innermost l.point d.0 d.1 ls
 
--- Dropping level l, those further inward being gone, leaves the state without it; its asker, the
--- first of the levels ls outside it, gets the default answer on that state and goes on; the drop
+-- Dropping level l, when those further inward are gone, leaves the state without it. Its asker, the
+-- first of the levels ls outside it, gets the default answer on that state and goes on. The outcome
 -- says level, graft and cause.
 abbrev pub drop_innermost : World → Objects → Level → List Level → Cause → Outcome
 drop_innermost v w l ls cause =

@@ -17,7 +17,7 @@ use Rattle.kernel_data.specs.Objects.{same_object, at2}
 abbrev pub Touched : Type 0
 Touched = Object → Held
 
--- how an object is held that was touched in a mode
+-- how an object is held after it was touched in a mode
 abbrev pub held_as : Mode → Held
 held_as Mode.Shared = Held.Shared
 held_as Mode.Exclusive = Held.Exclusive
@@ -39,7 +39,7 @@ abbrev pub is_held_exclusively : Held → Bool
 is_held_exclusively Held.Exclusive = true
 is_held_exclusively h = false
 
--- a hold conflicts with a mode unless both are shared; what is free conflicts with none
+-- a hold conflicts with a mode unless both are shared; a free object conflicts with no mode
 abbrev pub conflicts : Held → Mode → Bool
 conflicts Held.Free mode = false
 conflicts Held.Shared Mode.Shared = false
@@ -50,8 +50,8 @@ conflicts Held.Exclusive mode = true
 abbrev pub untouched : Touched
 untouched o = Held.Free
 
--- touching an object in a mode holds it in the stronger of that way and the way in which it was
--- held
+-- touching an object in a mode holds it in the stronger of this way and the way in which it was
+-- held before
 abbrev pub touch : Object → Mode → Touched → Touched
 touch o mode t a = cond (same_object a o) (stronger (t a) (held_as mode)) (t a)
 
@@ -66,7 +66,7 @@ joined t u a = stronger (t a) (u a)
 
 -- ---- the table of all levels
 
--- how each process's call holds objects at each of its levels, the outermost being level 0
+-- how each process's call holds objects at each of its levels; the outermost is level 0
 abbrev pub LockTable : Type 0
 LockTable = (process level : ℕ) → Touched
 
@@ -82,7 +82,7 @@ with_touch p d o mode t = at2 p d (touch o mode (t p d)) t
 abbrev pub merge_level : (p d : ℕ) → LockTable → LockTable
 merge_level p d t = at2 p d untouched (at2 p (d - 1) (joined (t p d) (t p (d - 1))) t)
 
--- a level and those further inward let go of what they hold
+-- a level and those further inward release what they hold
 abbrev pub release_from : (p d : ℕ) → LockTable → LockTable
 release_from p d t q e = cond (q == p && nat_le d e) untouched (t q e)
 
@@ -94,37 +94,37 @@ outermost_holding o mode levels = find (λ d. conflicts (levels d o) mode) (0 �
 abbrev pub hinders : Object → Mode → (ℕ → Touched) → Bool
 hinders o mode levels = is_some (outermost_holding o mode levels)
 
--- the lowest process, other than p, one of whose levels holds the object in conflict with the mode
+-- the lowest process, except p, with a level whose hold on the object conflicts with the mode
 abbrev pub lowest_holder : LockTable → ℕ → Object → Mode → Option ℕ
 lowest_holder t p o mode = find (λ q. not (q == p) && hinders o mode (t q)) processes
 
--- ---- what keeps a step from being taken
+-- ---- what hinders a step
 
--- an object that a step needs, the process that holds it, and whether it does so by a user lock
+-- an object that a step needs, the process that holds it, and whether it holds it by a user lock
 pub record Hindrance : Type 0 where
   pub object : Object
   pub holder : ℕ
   pub by_user : Bool
 
--- the process whose user lock an object is
+-- the process that holds an object as a user lock
 abbrev pub user_of : (ℕ → Option ℕ) → Object → Option ℕ
 user_of users (Lock u) = users u
 user_of users _ = None
 
--- a user lock hinders, unless q itself holds it
+-- a held user lock hinders, unless q itself holds it
 abbrev pub user_hindrance : ℕ → Object → Option ℕ → Option Hindrance
 user_hindrance q o None = None
 user_hindrance q o (Some h) =
     cond (h == q) None (Some (record { object = o; holder = h; by_user = true }))
 
--- what hinders one need: a call that holds its object, or else a user lock, where that counts
+-- what hinders one need: a call that holds its object; otherwise a user lock, if that counts
 abbrev pub hindrance_by : (ℕ → Option ℕ) → ℕ → Need → Option ℕ → Option Hindrance
 hindrance_by users q n (Some h) = Some (record { object = n.object; holder = h; by_user = false })
 hindrance_by users q n None =
     cond n.by_user (user_hindrance q n.object (user_of users n.object)) None
 
--- A step of p is hindered by the first of its needs, in order, that another call holds in conflict
--- or that is another's user lock; q's user locks don't hinder it.
+-- The first hindrance of a step of p is the first of its needs, in order, that another call holds
+-- in conflict or that is another's user lock; q's user locks don't hinder it.
 abbrev pub first_hindrance : LockTable → (users : ℕ → Option ℕ) → (p q : ℕ) → List Need →
     Option Hindrance
 first_hindrance t users p q [] = None

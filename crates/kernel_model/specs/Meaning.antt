@@ -1,5 +1,5 @@
--- What a table of system calls is to the kernel: seven functions. The kernel is defined over any such
--- table, so later calls are a new table and not a new kernel.
+-- A table of system calls is seven functions to the kernel. The kernel is defined over any table,
+-- so later calls are a new table and not a new kernel.
 use Rattle.std.specs.Prelude.{◌≡◌, ℕ, min, Bool, false, List, [], length, Option, None, Some}
 use Rattle.std.specs.Prelude.{option_map, Result, slice_index, slice_index_or, ⊤}
 use Rattle.kernel_data.specs.declared.Need.{Need}
@@ -10,17 +10,17 @@ use Rattle.kernel_data.specs.declared.Reply.{Reply}
 use Rattle.kernel_data.specs.Objects.{Objects}
 use Rattle.kernel_data.specs.World.{World, ImageTable, Blocks}
 
--- where a call stands, and what it carries from piece to piece: only those of event points and
--- streams carry something
+-- where a call is, and what it carries from piece to piece: only calls of event points and streams
+-- carry something
 pub record Stage : Type 0 where
   pub call : SysCall
   -- the number of its next piece, from 0
   pub piece : ℕ
-  -- the handlers whose pieces are to come, each a process and a point
+  -- the handlers whose pieces are left, each a process and a point
   pub handlers : List (ℕ × ℕ)
-  -- how many of those before them completed
+  -- how many of the handlers before them completed
   pub answers : ℕ
-  -- bytes that were read, or are to be written
+  -- the bytes that were read, or will be written
   pub bytes : List ℕ
 
 -- the stage of a call before the piece of this number, which carries nothing
@@ -32,7 +32,7 @@ pub record Answer : Type 0 where
   pub registers : List ℕ
   pub body : List ℕ
 
--- the answer of these registers that gives no bytes
+-- an answer with these registers that gives no bytes
 abbrev pub bare_answer : List ℕ → Answer
 bare_answer registers = record { registers = registers; body = [] }
 
@@ -52,7 +52,7 @@ pub data After : Type 0 where
   Fails : Refusal → After
 
 -- what a piece leaves: the objects, the disk's blocks, the bytes that it gives, what comes next,
--- and how many calls of the disk it made
+-- and how many disk calls it made
 pub record Piece : Type 0 where
   pub objects : Objects
   pub blocks : Blocks
@@ -60,28 +60,27 @@ pub record Piece : Type 0 where
   pub after : After
   pub calls : ℕ
 
--- the call of the disk of this number fails, where the list says of each call in order whether it
--- fails
+-- the disk call of this number fails; the list says for each disk call, in order, whether it fails
 abbrev pub disk_fails : List Bool → ℕ → Bool
 disk_fails io n = slice_index_or io n false
 
 -- A table of calls says how a call begins or is refused at once, what its next piece needs, which
--- point that asks, what it does in one step, at which stages a call may stand, and how many pieces
--- it may still take.
+-- point this piece asks, what it does in one step, at which stages a call may be, and how many
+-- pieces it may still take.
 pub record Meaning : Type 0 where
-  -- the stage at which a call of a process begins, or its refusal of least number that needs no
-  -- object
+  -- the stage at which a call of a process begins; or, of its refusals that need no object, the one
+  -- with the least number
   pub early : World → ImageTable → ℕ → SysCall → Result Stage Refusal
   -- the objects that the next piece needs, in order
   pub need : World → Objects → ℕ → Stage → List Need
   -- the point that the next piece asks
   pub asks : World → Objects → ℕ → Stage → Option Point
-  -- the bytes that the graft is fed which the next piece asks
+  -- the bytes that are fed to the graft that the next piece asks
   pub feed : Stage → List ℕ
-  -- the next piece in one step, with an answer or by default, and with what the calls of the disk
-  -- from here on will do
+  -- the next piece in one step, with an answer or by default, and with what the next disk calls
+  -- will do
   pub piece : World → ImageTable → Objects → Blocks → ℕ → Stage → Option Answer → List Bool → Piece
-  -- a call may stand at this stage
+  -- a call may be at this stage
   pub fits : World → Objects → ℕ → Stage → Bool
   -- how many pieces a call may still take
   pub left : World → Objects → ℕ → Stage → ℕ

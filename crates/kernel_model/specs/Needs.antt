@@ -1,6 +1,6 @@
--- For each piece of each call the objects that it needs, in order, and the point that it asks.
--- Which object comes next depends on the earlier ones alone; a list ends with the object that shows
--- a refusal.
+-- The objects that each piece of each call needs, in order, and the point that it asks. Which
+-- object comes next depends only on the earlier ones; a list ends with the object that shows a
+-- refusal.
 use Rattle.std.specs.Prelude.{ℕ, zero, suc, ◌+◌, ◌*◌, ◌==◌, Bool, true, false, cond, ◌&&◌, nat_le}
 use Rattle.std.specs.Prelude.{nat_lt, List, [], ◌∷◌, ◌++◌, Option, Some, None, map, length, Result}
 use Rattle.std.specs.Prelude.{Ok, Err}
@@ -38,17 +38,17 @@ shared o = needed o Shared
 abbrev pub exclusive : Object → Need
 exclusive o = needed o Exclusive
 
--- the account that may pay, where a graft stands
+-- the account that may pay, if a graft is installed
 abbrev pub payer_needs : ℕ → Option GraftValue → List Need
 payer_needs q None = []
 payer_needs q (Some g) = exclusive (Acct q) ∷ []
 
--- the objects of a point: its graft, exclusively, and where one stands its installer's account,
+-- the objects of a point: its graft, exclusively, and if one is installed its installer's account,
 -- which may pay, exclusively
 abbrev pub point_needs : Accounts → (q pt : ℕ) → List Need
 point_needs a q pt = exclusive (Graft q pt) ∷ payer_needs q (a.graft q pt)
 
--- the least number from p on that doesn't live, among n
+-- the least number that isn't living, of the n numbers from p on
 abbrev pub free_process : List QueueRow → (n p : ℕ) → Option ℕ
 free_process queue zero p = None
 free_process queue (suc n) p =
@@ -56,7 +56,7 @@ free_process queue (suc n) p =
 
 -- ---- the block that a piece fetches
 
--- bytes off to off + len of block i lie within a file
+-- bytes off to off + len of block i are in a file
 abbrev pub is_within : FileRow → (i off len : ℕ) → Bool
 is_within r i off len = nat_lt i r.blocks && nat_le (512 * i + off + len) r.length
 
@@ -70,7 +70,7 @@ abbrev pub file_block : World → Option OpenRow → (i off len : ℕ) → Resul
 file_block v None i off len = Err BadFd
 file_block v (Some o) i off len = file_block_in (file_row v o.file) i off len
 
--- the block that is to be read ahead next
+-- the next block to read ahead
 abbrev pub ahead_block : World → Option OpenRow → Result ℕ Refusal
 ahead_block v None = Err BadFd
 ahead_block v (Some o) = Ok (block_of v o.file o.start)
@@ -88,17 +88,17 @@ frame_with c b (f ∷ fs) =
 abbrev pub frame_of_block : CacheValue → ℕ → Option ℕ
 frame_of_block c b = frame_with c b c.lru
 
--- the lowest frame from f on that isn't in use, among n
+-- the lowest frame that isn't in use, of the n frames from f on
 abbrev pub free_frame : CacheValue → (n f : ℕ) → Option ℕ
 free_frame c zero f = None
 free_frame c (suc n) f = elim (c.frame f) [ None ↦ Some f | Some r ↦ free_frame c n (suc f) ]
 
--- the candidate where a frame must be chosen: no frame holds the block, and none is free
+-- the candidate, if a frame must be chosen: no frame holds the block, and none is free
 abbrev pub candidate_by : Option ℕ → Option ℕ → Option ℕ → Option ℕ
 candidate_by None None candidate = candidate
 candidate_by _ _ candidate = None
 
--- the candidate for eviction, where a frame must be chosen for a block
+-- the candidate for eviction, if a frame must be chosen for a block
 abbrev pub candidate_for : World → PolValue → CacheValue → ℕ → Option ℕ
 candidate_for v pol c b =
     candidate_by (frame_of_block c b) (free_frame c v.frames 0) (victim_among pol c c.lru)
@@ -107,19 +107,19 @@ candidate_for v pol c b =
 abbrev pub owner_asked : CacheValue → ℕ → ℕ
 owner_asked c f = or_zero (frame_owner c f)
 
--- the eviction policy and that point, where a frame must be chosen
+-- the eviction policy and the objects of that point, if a frame must be chosen
 abbrev pub victim_needs : Accounts → CacheValue → Option ℕ → List Need
 victim_needs a c None = []
 victim_needs a c (Some f) = shared (Pol 1) ∷ point_needs a (owner_asked c f) 4
 
--- the objects of a fetch, or none where the call is refused
+-- the objects of a fetch, or none if the call is refused
 abbrev pub fetch_needs : World → Objects → Result ℕ Refusal → List Need
 fetch_needs v s (Err refusal) = []
 fetch_needs v s (Ok b) =
     exclusive Cache ∷ victim_needs s.accounts s.things.cache
     (candidate_for v (s.things.pol 1) s.things.cache b)
 
--- the point of the candidate's owner, for a block to come
+-- the point of the candidate's owner, for the block that needs a frame
 abbrev pub victim_ask : CacheValue → ℕ → Option ℕ → Option Point
 victim_ask c b None = None
 victim_ask c b (Some f) =
@@ -141,7 +141,7 @@ abbrev pub spawn_needs : Option ℕ → List Need
 spawn_needs None = exclusive Queue ∷ []
 spawn_needs (Some c) = exclusive Queue ∷ exclusive (Acct c) ∷ []
 
--- all that is of a process, and what takes it over
+-- all that belongs to a process, and what takes it over
 abbrev pub exit_needs : ℕ → List Need
 exit_needs p =
     exclusive Queue ∷ exclusive Cache ∷ exclusive (Acct p) ∷ exclusive (Acct 0)
@@ -150,7 +150,7 @@ exit_needs p =
     ++ map (λ k. exclusive (Object.Cell p k)) (range_with_len 0 4)
     ++ map (λ u. exclusive (Lock u)) (range_with_len 0 16)
 
--- the scheduling point of a candidate
+-- the objects of the scheduling point of a candidate
 abbrev pub slice_needs : Accounts → Option ℕ → List Need
 slice_needs a None = []
 slice_needs a (Some c) = point_needs a c 5

@@ -8,8 +8,8 @@ use Rattle.kernel_model.specs.Kernel.{Kernel}
 abbrev pub opening_account : ℕ → ℕ → AcctValue
 opening_account grant q = record { balance = λ k. cond (q == 0) grant 0; spent = λ k. 0 }
 
--- policy 1 reads ahead, by 2 blocks; policy 2 of that kind would by 1; all else is policy 0 and
--- parameter 0
+-- read-ahead has policy 1, with 2 blocks; policy 2 of that kind has 1 block; every other kind has
+-- policy 0, and every other parameter is 0
 abbrev pub opening_policy : ℕ → PolValue
 opening_policy kind =
     record {
@@ -21,7 +21,7 @@ opening_policy kind =
 abbrev pub opening_accounts : ℕ → Accounts
 opening_accounts grant = record { graft = λ q pt. None; acct = opening_account grant }
 
--- process 0 lives alone; nothing is open, held or in a frame
+-- only process 0 lives; nothing is open, held or in a frame
 abbrev pub opening_things : Things
 opening_things =
     record {

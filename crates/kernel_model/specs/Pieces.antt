@@ -1,5 +1,5 @@
--- What each piece of each system call does, in one step (those of the calls on files stand in
--- `FilePieces`); and the meaning of the whole table of calls.
+-- What each piece of each system call does, in one step (`FilePieces` has those of the calls on
+-- files); and the meaning of the whole table of calls.
 use Rattle.std.specs.Prelude.{ℕ, zero, suc, ◌+◌, ◌-◌, ◌==◌, Bool, true, false, cond, not, ◌&&◌}
 use Rattle.std.specs.Prelude.{nat_le, nat_lt, List, [], ◌∷◌, ◌++◌, Option, Some, None, map, filter}
 use Rattle.std.specs.Prelude.{length}
@@ -44,18 +44,18 @@ spawn_piece s (Some c) blocks =
     leaves (with_queue (s.things.queue ++ record { process = c; nice = 20; slices = 0 } ∷ []) s)
     blocks (EndsWith (One c))
 
--- an account of nothing
+-- an empty account
 abbrev pub empty_account : AcctValue
 empty_account = record { balance = λ k. 0; spent = λ k. 0 }
 
--- two accounts as one
+-- the sum of two accounts
 abbrev pub joint_account : AcctValue → AcctValue → AcctValue
 joint_account a b = record {
   balance = λ k. a.balance k + b.balance k;
   spent = λ k. a.spent k + b.spent k;
 }
 
--- the grafts of p at the first n points are taken out, and their balances go to its account
+-- the grafts of p at the first n points are removed, and their balances go to its account
 abbrev pub without_grafts : (p n : ℕ) → Accounts → Accounts
 without_grafts p zero a = a
 without_grafts p (suc n) a = without_grafts p n (removed p n a)
@@ -75,8 +75,8 @@ abbrev pub freed_by : ℕ → Option ℕ → Option ℕ
 freed_by p None = None
 freed_by p (Some q) = cond (q == p) None (Some q)
 
--- p's cells are 0, its files closed, its locks free, it isn't in the queue, its handlers are gone,
--- and its frames are process 0's
+-- p's cells are 0, its files are closed, its user locks are free, it isn't in the queue, its
+-- handlers are gone, and its frames belong to process 0
 abbrev pub things_without : ℕ → Things → Things
 things_without p w =
     record {
@@ -103,13 +103,13 @@ abbrev pub to_back : ℕ → List QueueRow → List QueueRow
 to_back p rows = filter (λ (r : QueueRow). not (r.process == p)) rows
     ++ filter (λ (r : QueueRow). r.process == p) rows
 
--- the queue with one slice more for a process
+-- the queue with one more slice for a process
 abbrev pub add_slice : ℕ → List QueueRow → List QueueRow
 add_slice p rows =
     map (λ (r : QueueRow). cond (r.process == p) (record r { slices = one_more_slice r.slices }) r)
     rows
 
--- p goes to the back; then the process of the answer gets a slice, and is what the call answers
+-- first p goes to the back; then the process of the answer gets a slice, and the call returns it
 abbrev pub yield_piece : ℕ → Objects → ℕ → Option (List ℕ) → Blocks → Piece
 yield_piece zero s p answer blocks =
     leaves (with_queue (to_back p s.things.queue) s) blocks (Continues (stage Yield 1))
@@ -127,12 +127,12 @@ poke_piece s p k x blocks = leaves (with_things (set_cell p k x s.things) s) blo
 abbrev pub with_holder : ℕ → Option ℕ → Objects → Objects
 with_holder u h s = with_things (record (s.things) { lock = at u h s.things.lock }) s
 
--- a user lock is taken; who comes here and finds it held holds it
+-- a user lock is taken; if it is held already, the caller itself holds it
 abbrev pub lock_piece : Objects → (p u : ℕ) → Option ℕ → Blocks → Piece
 lock_piece s p u (Some h) blocks = refuses s blocks Refusal.Held
 lock_piece s p u None blocks = leaves (with_holder u (Some p) s) blocks well
 
--- a user lock is let go by its holder
+-- the holder of a user lock frees it
 abbrev pub unlock_piece : Objects → (p u : ℕ) → Option ℕ → Blocks → Piece
 unlock_piece s p u None blocks = refuses s blocks NotHeld
 unlock_piece s p u (Some h) blocks =
@@ -159,11 +159,11 @@ choose_piece s kind j blocks =
 
 -- ---- amounts and grafts
 
--- an account with so much less
+-- an account with this amount less
 abbrev pub less : Kind → ℕ → AcctValue → AcctValue
 less k n a = record a { balance = at_kind k (a.balance k - n) a.balance }
 
--- an account with so much more
+-- an account with this amount more
 abbrev pub more : Kind → ℕ → AcctValue → AcctValue
 more k n a = record a { balance = at_kind k (a.balance k + n) a.balance }
 
@@ -192,7 +192,7 @@ new_graft i limit = record { image = i; limit = limit; billed = false; balance =
 abbrev pub with_graft : (p pt : ℕ) → GraftValue → Accounts → Accounts
 with_graft p pt g a = record a { graft = at2 p pt (Some g) a.graft }
 
--- a graft is put at a point; nothing is kept for it yet
+-- a graft is installed at a point; nothing is kept for it yet
 abbrev pub with_new_graft : (p pt : ℕ) → GraftValue → Objects → Objects
 with_new_graft p pt g s =
     record {
@@ -200,18 +200,18 @@ with_new_graft p pt g s =
       things = set_segment p pt None s.things;
     }
 
--- a graft is put at a point where none stands
+-- a graft is installed at a point that has none
 abbrev pub install_piece : Objects → (p pt : ℕ) → GraftValue → Option GraftValue → Blocks → Piece
 install_piece s p pt g (Some h) blocks = refuses s blocks Taken
 install_piece s p pt g None blocks =
     leaves (with_new_graft p pt g s) blocks well
 
--- a graft is taken out, and its balances go back
+-- a graft is removed, and its balances go back
 abbrev pub remove_piece : Objects → (p pt : ℕ) → Option GraftValue → Blocks → Piece
 remove_piece s p pt None blocks = refuses s blocks NoGraft
 remove_piece s p pt (Some g) blocks = leaves (with_accounts (removed p pt s.accounts) s) blocks well
 
--- a graft with so much more
+-- a graft with this amount more
 abbrev pub funded : Kind → ℕ → GraftValue → GraftValue
 funded k n g = record g { balance = at_kind k (g.balance k + n) g.balance }
 
@@ -232,7 +232,7 @@ fund_piece s p pt k n (Some g) blocks =
       | false ↦ leaves (with_accounts (accounts_funded p pt k n g s.accounts) s) blocks well
     ]
 
--- from here on the installer's account pays
+-- from now on the installer's account pays
 abbrev pub bill_piece : Objects → (p pt : ℕ) → Option GraftValue → Blocks → Piece
 bill_piece s p pt None blocks = refuses s blocks NoGraft
 bill_piece s p pt (Some g) blocks =
@@ -273,7 +273,7 @@ piece_of (Serve port bytes) n v s blocks p answer io = refuses s blocks BadPoint
 piece_of (StreamRead fd i off len) n v s blocks p answer io = refuses s blocks BadPoint
 piece_of (StreamWrite fd i off bytes) n v s blocks p answer io = refuses s blocks BadPoint
 
--- the later pieces of a read have its file open, and from the third on there is something to read
+-- at the later pieces of a read its file is open, and from the third on there is something to read
 -- ahead
 abbrev pub read_fits : ℕ → Option OpenRow → Bool
 read_fits zero o = true
@@ -281,8 +281,8 @@ read_fits (suc n) None = false
 read_fits (suc zero) (Some o) = true
 read_fits (suc (suc n)) (Some o) = nat_le 1 o.count
 
--- A call may stand before the piece of this number: a read, of one of the four descriptors, before
--- each of its three, and another call not past its last.
+-- A call may be before the piece of this number: a read, of one of the four descriptors, before
+-- each of its three, and any other call up to its last.
 abbrev pub piece_fits : SysCall → ℕ → Things → ℕ → Bool
 piece_fits Yield n w p = nat_le n 1
 piece_fits (Read fd i off len) n w p = nat_lt fd 4 && (nat_le n 2 && read_fits n (w.file p fd))
@@ -301,7 +301,7 @@ pieces_left Yield n w p = 2 - n
 pieces_left (Read fd i off len) n w p = read_left n (w.file p fd)
 pieces_left c n w p = 1
 
--- the meaning of the calls of the table, where points go up to this one
+-- the meaning of the calls of the table, with points up to this one
 abbrev pub plain_upto : (top : ℕ) → Meaning
 plain_upto top =
     record {
@@ -315,6 +315,6 @@ plain_upto top =
       left = λ v s p t. pieces_left t.call t.piece s.things p;
     }
 
--- the meaning of the calls that are built: points up to `TOP_POINT`
+-- the meaning of the plain calls, whose points go up to `TOP_POINT`
 abbrev pub plain_calls : Meaning
 plain_calls = plain_upto TOP_POINT

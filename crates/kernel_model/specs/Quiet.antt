@@ -1,8 +1,8 @@
 -- A kernel in which no call is in flight, and a call that is alone in it. The law, for every table
--- of calls: where no call is in flight, no graft stands and no user lock counts for what its pieces
--- need, a call runs at its own event, piece after piece, and afterwards no call is in flight again.
--- It is proved here for calls that end with their first or their second piece, and in `Alone` for
--- calls of any number of pieces.
+-- of calls: if no call is in flight, no graft is installed and no user lock counts for what its
+-- pieces need, a call runs at its own event, piece after piece, and afterwards no call is in flight
+-- again. It is proved here for calls that end with their first or their second piece, and in
+-- `Alone` for calls with any number of pieces.
 use Rattle.std.specs.Prelude.{◌≡◌, ℕ, zero, suc, ◌==◌, Bool, true, false, cond, not, ◌&&◌, List, []}
 use Rattle.std.specs.Prelude.{◌∷◌, ◌++◌, Option, Some, None, map, drop, find, slice_index_or}
 use Rattle.std.specs.Prelude.{option_map, refl, Result, Ok, Err}
@@ -53,7 +53,7 @@ begins_alone p number t r =
       };
     }
 
--- what a piece leaves: its objects, blocks and notes, and the calls of the disk behind its own
+-- what a piece leaves: its objects, blocks and notes, and the disk calls after its own
 abbrev pub left_by : (number : ℕ) → Piece → Run → Run
 left_by number q r =
     record {
@@ -63,37 +63,37 @@ left_by number q r =
       io = drop q.calls r.io;
     }
 
--- the call goes on before its next piece, or has ended
+-- the call goes on with its next piece, or has ended
 abbrev pub goes_alone : (p number : ℕ) → After → Run → Run
 goes_alone p number (Continues t) r = begins_alone p number t r
 goes_alone p number (EndsWith reply) r = r
 goes_alone p number (Fails refusal) r = r
 
--- No user lock counts for these needs. It counts for the lock of a `lock` call, held or free.
+-- No user lock counts for these needs. One counts for the lock of a `lock` call, held or free.
 abbrev pub needs_no_user : List Need → Bool
 needs_no_user ns = list_all (λ (n : Need). not n.by_user) ns
 
--- a user lock has another holder than p
+-- another process than p holds a user lock
 abbrev pub is_others : ℕ → Option ℕ → Bool
 is_others p None = false
 is_others p (Some q) = not (q == p)
 
--- No user lock of another process keeps p from these needs. A free lock and its own lock don't.
+-- No user lock of another process hinders these needs of p. A free lock and p's own lock don't.
 abbrev pub is_unhindered : (users : ℕ → Option ℕ) → (p : ℕ) → List Need → Bool
 is_unhindered users p ns =
     list_all (λ (n : Need). not (n.by_user && is_others p (user_of users n.object))) ns
 
--- no graft stands
+-- no graft is installed
 abbrev pub HasNoGraft : Objects → Type 0
 HasNoGraft s = (q pt : ℕ) → s.accounts.graft q pt ≡ None
 
 -- ---- nothing is held
 
--- a number is itself
+-- a number equals itself
 same_number : (p : ℕ) → (p == p) ≡ true
 same_number p = nat_eq_equiv.refl p
 
--- a call before a piece has no level, and where there is no call there is none either
+-- a call before a piece has no level, and without a call there is none either
 no_levels : (m : Meaning) (k : Kernel) (q : ℕ) (c : Call) (b : Bool) → c.marks ≡ None →
     levels_in (config_in (trace_of m k q (cond b (Some c) None))) ≡ []
 no_levels m k q c true h = rw h refl
@@ -112,12 +112,12 @@ empty_at f h [] q = refl
 empty_at f h (p ∷ ps) zero = h p
 empty_at f h (p ∷ ps) (suc q) = empty_at f h ps q
 
--- where no test passes nothing is found
+-- if no test passes, nothing is found
 none_found : (test : ℕ → Bool) → ((q : ℕ) → test q ≡ false) → (qs : List ℕ) → find test qs ≡ None
 none_found test h [] = refl
 none_found test h (q ∷ qs) = rw (h q) (none_found test h qs)
 
--- a test and one that fails
+-- a test together with one that fails
 and_fails : (a b : Bool) → b ≡ false → (a && b) ≡ false
 and_fails true b h = h
 and_fails false b h = refl
@@ -148,7 +148,7 @@ not_holds : (a : Bool) → not a ≡ true → a ≡ false
 not_holds true h = absurd cc
 not_holds false h = refl
 
--- where user locks don't count, none keeps any process from these needs
+-- if no user lock counts, none hinders these needs of any process
 pub free_of_users : (users : ℕ → Option ℕ) (p : ℕ) (ns : List Need) → needs_no_user ns ≡ true →
     is_unhindered users p ns ≡ true
 free_of_users users p [] h = refl
@@ -190,7 +190,7 @@ none_first m p number t r users u w (n ∷ ns) h =
 
 -- ---- one step
 
--- the call of p, where it is alone in flight
+-- the call of p when it is alone in flight
 call_alone : (p number : ℕ) (t : Stage) →
     at p (Some (call_at number t)) (λ q. None) p ≡ Some (call_at number t)
 call_alone p number t = ap (λ (b : Bool). cond b (Some (call_at number t)) None) (same_number p)
@@ -212,7 +212,7 @@ free_alone m p number t r h =
     ap (λ (x : Option Hindrance). elim (option_map (blocker_from k) x) as (λ _. Option ℕ)
     [ None ↦ Some p | Some b ↦ None ]) none
 
--- the default finishes a piece where no graft stands
+-- the default finishes a piece if no graft is installed
 default_finishes : (m : Meaning) (p : ℕ) (c : Call) (a : Option Point) (r : Run) →
     HasNoGraft r.kernel.objects →
     piece_step m p c a r ≡ finish_on m p c r.kernel.objects None r
@@ -238,14 +238,14 @@ either_way : (b : Bool) (x : Option Call) → cond b x x ≡ x
 either_way true x = refl
 either_way false x = refl
 
--- no call is in flight, also where one was taken out
+-- no call is in flight, also after one was taken out
 abbrev no_calls : ℕ → Option Call
 no_calls q = None
 
 at_none : (p : ℕ) → at p None no_calls ≡ no_calls
 at_none p = fun_ext (λ j. either_way (j == p) (no_calls j))
 
--- the entry of p alone, without p
+-- the order with only the entry of p, without p
 less_alone : (p : ℕ) → less_entry p (new_entry p ∷ []) ≡ []
 less_alone p = ap (λ (b : Bool). cond (not b) (new_entry p ∷ []) []) (same_number p)
 
@@ -255,7 +255,7 @@ run_with number q r calls order =
     let l = left_by number q r in
     record l { kernel = record (l.kernel) { call = calls; order = order } }
 
--- where the call goes on it stands in the order, and where it has ended nothing is left of it
+-- if the call goes on, it is in the order; if it has ended, nothing is left of it
 run_goes : (p number : ℕ) (t : Stage) (a : After) (r : Run) → r.kernel.order ≡ [] →
     (λ q. None) ≡ r.kernel.call →
     record r {
@@ -275,7 +275,7 @@ run_goes p number t (Fails refusal) r order calls =
     (at_none p ∙ calls)
     ∙ ap (λ (o : List Waiter). record r { kernel = record (r.kernel) { order = o } }) (sym order)
 
--- after its piece the call stands in the order where it goes on, and has left it where it has ended
+-- after its piece the call is in the order if it goes on, and has left it if it has ended
 finished_alone : (p number : ℕ) (t : Stage) (q : Piece) (v : World) (images : ImageTable)
     (s : Objects) (clock : ℕ) (blocks : Blocks) (notes : List Note) (io : List Bool) →
     requeue p (finish p (call_at number t) q
@@ -312,7 +312,8 @@ step_alone m p number t v images s clock blocks notes io none =
     ∙ finished_alone p number t
     (m.piece v images s blocks p t None io) v images s clock blocks notes io
 
--- Settling a kernel with one call in flight takes its piece, by default, and settles what is then.
+-- Settling a kernel with one call in flight takes the call's piece, by default, and then settles
+-- the run after it.
 pub settle_alone : (m : Meaning) (n p number : ℕ) (t : Stage) (v : World) (images : ImageTable)
     (s : Objects) (clock : ℕ) (blocks : Blocks) (notes : List Note) (io : List Bool) →
     HasNoGraft s → is_unhindered s.things.lock p (m.need v s p t) ≡ true →
@@ -343,20 +344,20 @@ abbrev pub has_ended : After → Bool
 has_ended (Continues t) = false
 has_ended _ = true
 
--- a call that has ended is in flight no more
+-- a call that has ended is no longer in flight
 ended_alone : (p number : ℕ) (a : After) (r : Run) → has_ended a ≡ true →
     goes_alone p number a r ≡ r
 ended_alone p number (Continues t) r h = absurd cc
 ended_alone p number (EndsWith reply) r h = refl
 ended_alone p number (Fails refusal) r h = refl
 
--- a call that goes on stands before its next piece
+-- a call that goes on is before its next piece
 gone_alone : (p number : ℕ) (a : After) (u : Stage) (r : Run) → a ≡ Continues u →
     goes_alone p number a r ≡ begins_alone p number u r
 gone_alone p number a u r h = ap (λ x. goes_alone p number x r) h
 
--- The event of a call that is granted, of a process that lives, where no call is in flight: it
--- settles with that call alone.
+-- The event of a granted call of a living process, if no call is in flight: the kernel settles with
+-- that call alone.
 pub granted_alone : (m : Meaning) (p number : ℕ) (c : SysCall) (t : Stage) (v : World)
     (images : ImageTable) (s : Objects) (clock : ℕ) (blocks : Blocks) (io : List Bool) →
     lives s.things.queue p ≡ true → m.early v images p c ≡ Ok t →
@@ -370,7 +371,7 @@ granted_alone m p number c t v images s clock blocks io alive granted =
     ]) alive
     ∙ ap (λ (x : Result Stage Refusal). last m p (begun m number p x r)) granted
 
--- The event of a process that doesn't live is a refusal, and nothing changes.
+-- The event of a process that isn't living is a refusal, and nothing changes.
 pub event_of_none : (m : Meaning) (p number : ℕ) (c : SysCall) (v : World) (images : ImageTable)
     (s : Objects) (clock : ℕ) (blocks : Blocks) (io : List Bool) →
     lives s.things.queue p ≡ false →
@@ -397,8 +398,8 @@ event_refused m p number c refusal v images s clock blocks io alive refused =
     ]) alive
     ∙ ap (λ (x : Result Stage Refusal). last m p (begun m number p x r)) refused
 
--- Where no call is in flight and no graft stands, the event of a call that is granted, for whose
--- needs no user lock counts, and that ends with its first piece, is that piece by default.
+-- If no call is in flight, no graft is installed, and no user lock counts for the needs of a
+-- granted call that ends with its first piece, the event of this call is that piece by default.
 pub event_of_one : (m : Meaning) (p number : ℕ) (c : SysCall) (t : Stage) (v : World)
     (images : ImageTable) (s : Objects) (clock : ℕ) (blocks : Blocks) (io : List Bool) →
     lives s.things.queue p ≡ true → m.early v images p c ≡ Ok t → HasNoGraft s →
@@ -415,8 +416,8 @@ event_of_one m p number c t v images s clock blocks io alive granted none users 
     (free_of_users s.things.lock p (m.need v s p t) users))
     ∙ ap (λ (x : Run). last m p (settle m 255 x)) (ended_alone p number q.after l ended)
 
--- The same for a call that ends with its second piece: the one piece and then the other, where the
--- premises hold before each.
+-- The same for a call that ends with its second piece: first the one piece and then the other, if
+-- the premises hold before each.
 pub event_of_two : (m : Meaning) (p number : ℕ) (c : SysCall) (t u : Stage) (v : World)
     (images : ImageTable) (s : Objects) (clock : ℕ) (blocks : Blocks) (io : List Bool) →
     lives s.things.queue p ≡ true → m.early v images p c ≡ Ok t → HasNoGraft s →

@@ -1,4 +1,4 @@
--- The rows that `raw` writes: they show a kernel's whole state, changes in flight included.
+-- The rows that `raw` writes: they show a kernel's whole state, including changes in flight.
 use Rattle.std.specs.Prelude.{ℕ, suc, ◌==◌, List, [], ◌∷◌, ◌++◌, Option, None, Some, map, filter}
 use Rattle.std.specs.Prelude.{filter_map, flat_map, length, reverse, find, option_map}
 use Rattle.std.specs.List.{range_with_len}

@@ -1,4 +1,4 @@
--- One step of a call, and steps of the first call in the order that nothing blocks, until every
+-- One step of a call; and steps of the first call in the order that nothing blocks, until every
 -- call in the order is blocked.
 use Rattle.std.specs.Prelude.{ℕ, zero, suc, true, false, List, [], ◌∷◌, ◌++◌, Option, Some, None, map}
 use Rattle.kernel_data.specs.declared.Point.{Point}
@@ -13,12 +13,12 @@ use Rattle.kernel_model.specs.History.{Mark, Stepped, Trace, fallen}
 use Rattle.kernel_model.specs.Kernel.{Call, Blocker, Waiter, Kernel, Run, finish, noted, requeue, with_marks}
 use Rattle.kernel_model.specs.Blocking.{blocker_in, holds, same_blocker, trace_of}
 
--- level 0 was lost: of what it did only accounts and grafts stay
+-- the objects after level 0 is lost: of what it did only accounts and grafts stay
 abbrev pub lost_objects : Objects → Objects → Objects
 lost_objects w s = record { accounts = w.accounts; things = s.things }
 
--- An entry whose blocker is the kept one keeps its count; another keeps the new blocker with count
--- 0.
+-- An entry whose blocker is the kept one keeps its count; any other entry keeps the new blocker
+-- with count 0.
 abbrev pub entry_with : Waiter → Option Blocker → Waiter
 entry_with e b = elim (same_blocker e.blocker b) [
   | true ↦ e
@@ -33,8 +33,8 @@ module _ (m : Meaning) where
   finish_on p c s answer r =
       finish p c (m.piece r.kernel.world r.kernel.images s r.blocks p c.stage answer r.io) r
 
-  -- a piece: a history begins where a graft stands at its point, else the default finishes the
-  -- piece
+  -- a piece: if a graft is installed at its point, a history begins; otherwise the default finishes
+  -- the piece
   abbrev pub piece_at : ℕ → Call → Option GraftValue → Run → Run
   piece_at p c None r = finish_on p c r.kernel.objects None r
   piece_at p c (Some g) r = with_marks p c [] r
@@ -44,14 +44,14 @@ module _ (m : Meaning) where
   piece_step p c None r = piece_at p c None r
   piece_step p c (Some a) r = piece_at p c (r.kernel.objects.accounts.graft a.installer a.point) r
 
-  -- a level was dropped: level 0's default finishes the piece, and another's history goes back to
-  -- the ask that began it
+  -- after the drop of a level: for level 0 the default finishes the piece; for another level the
+  -- history goes back to the ask that began it
   abbrev pub after_drop : ℕ → Call → Trace → List Mark → Outcome → (d : ℕ) → Run → Run
   after_drop p c t ks o zero r = finish_on p c (lost_objects o.config.now r.kernel.objects) None r
   after_drop p c t ks o (suc d) r = with_marks p c (fallen t ks o.effects (suc d)) r
 
-  -- what an instruction, or the drop of a level, makes of a call whose history leads to a trace;
-  -- one that runs alone is never blocked
+  -- a run after an instruction, or the drop of a level, of a call whose history leads to this
+  -- trace; an instruction that runs alone is never blocked
   abbrev pub after_outcome : ℕ → Call → Trace → List Mark → Outcome → Micro → Run → Run
   after_outcome p c t ks o Micro.Went r = with_marks p c (ks ++ Stepped ∷ []) r
   after_outcome p c t ks o (Micro.Blocked object holder by_user) r = r
@@ -60,7 +60,7 @@ module _ (m : Meaning) where
   after_outcome p c t ks o (Micro.Dropped d q pt cause) r =
       after_drop p c t ks o d (noted (Dropped c.number q pt cause) r)
 
-  -- the same by what is said of the outcome
+  -- the same, by what the outcome says
   abbrev pub outcome_step : ℕ → Call → Trace → List Mark → Outcome → Run → Run
   outcome_step p c t ks o r = after_outcome p c t ks o o.said r
 
@@ -70,7 +70,7 @@ module _ (m : Meaning) where
   graft_step p c ks (Some t) r =
       outcome_step p c t ks (micro r.kernel.world r.kernel.images p t.config) r
 
-  -- a piece, or an instruction where the call has a level
+  -- a piece, or an instruction if the call has a level
   abbrev pub marked_step : ℕ → Call → Option (List Mark) → Run → Run
   marked_step p c None r = piece_step p c (m.asks r.kernel.world r.kernel.objects p c.stage) r
   marked_step p c (Some ks) r = graft_step p c ks (trace_of m r.kernel p (Some c)) r
@@ -80,17 +80,17 @@ module _ (m : Meaning) where
   call_step p None r = r
   call_step p (Some c) r = marked_step p c c.marks r
 
-  -- One step of the call of p is a piece, the beginning of a graft call, or an instruction. Where
-  -- the instruction ends level 0 with an answer, its changes are committed and the piece is
-  -- finished with the answer in this same step; where level 0 is dropped, only accounts and grafts
-  -- stay and the default finishes the piece. The call then stands in the order exactly where its
-  -- next step is a piece.
+  -- One step of the call of p is a piece, the beginning of a graft call, or an instruction. If the
+  -- instruction ends level 0 with an answer, this same step commits its changes and finishes the
+  -- piece with the answer; if level 0 is dropped, only accounts and grafts stay and the default
+  -- finishes the piece. After the step the call is in the order if and only if its next step is a
+  -- piece.
   abbrev pub step : ℕ → Run → Run
   step p r = requeue p (call_step p (r.kernel.call p) r)
 
   -- ---- steps until all are blocked
 
-  -- the first of these entries that nothing blocks, where the table tells what calls hold
+  -- the first of these entries that nothing blocks; the table says what calls hold
   abbrev pub first_free_in : Kernel → LockTable → List Waiter → Option ℕ
   first_free_in k locks [] = None
   first_free_in k locks (e ∷ es) =
@@ -104,7 +104,7 @@ module _ (m : Meaning) where
   first_free k [] = None
   first_free k (e ∷ es) = first_free_in k (holds m k) (e ∷ es)
 
-  -- each entry with its blocker, where the table tells what calls hold
+  -- each entry with its blocker; the table says what calls hold
   abbrev pub order_in : Kernel → LockTable → List Waiter → List Waiter
   order_in k locks es = map (λ (e : Waiter). entry_with e (blocker_in m k locks e.process)) es
 
@@ -118,9 +118,9 @@ module _ (m : Meaning) where
   rested r = record r
       { kernel = record (r.kernel) { order = rested_order r.kernel r.kernel.order } }
 
-  -- Settling takes at most so many steps, each of the first call in the order that nothing blocks;
-  -- then each entry keeps its blocker, with its count where that is the same as before and else
-  -- from 0.
+  -- Settling takes at most this many steps, each of the first call in the order that nothing
+  -- blocks. Then each entry keeps its blocker: with its count if it is the same blocker as before,
+  -- otherwise with count 0.
   abbrev pub settle : ℕ → Run → Run
   settle zero r = rested r
   settle (suc n) r =

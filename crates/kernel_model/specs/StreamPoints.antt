@@ -1,6 +1,7 @@
 -- The table of stream points. The graft at point 14 of a process changes what its stream reads
 -- give, and the one at point 15 what its stream writes put. `sread` and `swrite`, and `install`,
--- `remove`, `fund` and `bill` at these points, are calls of this table. docs/CALLS.md tells them.
+-- `remove`, `fund` and `bill` at these points, are calls of this table. docs/CALLS.md describes
+-- them.
 use Rattle.std.specs.Prelude.{ℕ, zero, suc, ◌+◌, ◌-◌, Bool, true, false, cond, ◌&&◌, ◌||◌, ◌==◌}
 use Rattle.std.specs.Prelude.{nat_le, nat_lt, List, [], ◌∷◌, length, slice_range, Option, Some}
 use Rattle.std.specs.Prelude.{None, Result, Ok, Err}
@@ -31,7 +32,7 @@ READ_POINT = 14
 abbrev pub WRITE_POINT : ℕ
 WRITE_POINT = 15
 
--- a point is one of streams
+-- a point is one of the stream points
 abbrev pub is_stream_point : ℕ → Bool
 is_stream_point pt = pt == READ_POINT || pt == WRITE_POINT
 
@@ -45,8 +46,8 @@ is_stream_call (Fund pt kind n) = is_stream_point pt
 is_stream_call (Bill pt) = is_stream_point pt
 is_stream_call c = false
 
--- the refusal of least number that needs no object: that of `read` and of `write`, and those of the
--- calls on grafts at any point up to 15
+-- of the refusals that need no object, the one with the least number: as for `read` and `write`,
+-- and as for the calls on grafts at any point up to 15
 abbrev pub stream_refusal : World → ImageTable → ℕ → SysCall → Option Refusal
 stream_refusal v images p (StreamRead fd i off len) =
     call_refusal WRITE_POINT v images p (Read fd i off len)
@@ -62,7 +63,7 @@ abbrev pub through : Option Answer → List ℕ → List ℕ
 through None bytes = bytes
 through (Some a) bytes = a.body
 
--- a point is asked with how many bytes there are, the block, the offset and the descriptor
+-- a point is asked with the number of bytes, the block, the offset and the descriptor
 abbrev pub stream_point : (p pt : ℕ) → (count i off fd : ℕ) → Point
 stream_point p pt count i off fd =
     record { installer = p; point = pt; args = count ∷ i ∷ off ∷ fd ∷ [] }
@@ -81,7 +82,7 @@ stream_read_ask zero v w p fd i off len count =
     fetch_ask v w (file_block v (w.file p fd) i off len)
 stream_read_ask (suc n) v w p fd i off len count = Some (stream_point p READ_POINT count i off fd)
 
--- the first piece, once the block is fetched: its bytes go into the call
+-- the first piece, after the block is fetched: its bytes go into the call
 abbrev pub stream_taken : SysCall → Objects → Blocks → (off len : ℕ) → Fetched → Piece
 stream_taken c s blocks off len (Failed calls) = disk_failed s blocks calls
 stream_taken c s blocks off len (Got cache after frame calls) =
@@ -114,7 +115,7 @@ stream_read_piece (suc n) t v s blocks p fd i off len answer io =
 
 -- ---- writes
 
--- the point of stream writes, where the file has these bytes
+-- the objects of the point of stream writes, if the file has these bytes
 abbrev pub stream_point_needs : Objects → ℕ → Result ℕ Refusal → List Need
 stream_point_needs s p (Err refusal) = []
 stream_point_needs s p (Ok b) = point_needs s.accounts p WRITE_POINT
@@ -127,7 +128,7 @@ stream_write_needs zero v s p fd i off given out =
     ∷ stream_point_needs s p (file_block v (s.things.file p fd) i off (length given))
 stream_write_needs (suc n) v s p fd i off given out = piece_needs (Write fd i off out) 0 v s p
 
--- the point, where the file has these bytes
+-- the point, if the file has these bytes
 abbrev pub stream_write_asks : (p fd i off count : ℕ) → Result ℕ Refusal → Option Point
 stream_write_asks p fd i off count (Err refusal) = None
 stream_write_asks p fd i off count (Ok b) = Some (stream_point p WRITE_POINT count i off fd)
@@ -140,7 +141,7 @@ stream_write_ask zero v w p fd i off given out =
     (file_block v (w.file p fd) i off (length given))
 stream_write_ask (suc n) v w p fd i off given out = piece_ask (Write fd i off out) 0 v w p
 
--- what came out of the point goes into the call, unless the file refuses
+-- what came out of the point goes into the call, unless the call is refused
 abbrev pub stream_changed : Result ℕ Refusal → SysCall → Objects → Blocks → List ℕ → Piece
 stream_changed (Err refusal) c s blocks out = refuses s blocks refusal
 stream_changed (Ok b) c s blocks out =
@@ -174,7 +175,7 @@ stream_ask (StreamWrite fd i off bytes) t v w p =
     stream_write_ask t.piece v w p fd i off bytes t.bytes
 stream_ask c t v w p = None
 
--- what a stream's graft is fed: the bytes that were read, or are to be written
+-- the bytes that are fed to a stream's graft: those that were read, or will be written
 abbrev pub stream_feed : SysCall → ℕ → (carried : List ℕ) → List ℕ
 stream_feed (StreamRead fd i off len) n carried = carried
 stream_feed (StreamWrite fd i off bytes) zero carried = bytes
@@ -200,7 +201,7 @@ stream_fits (StreamWrite fd i off bytes) t =
     cond (t.piece == 0) true (t.piece == 1 && nat_le (off + length t.bytes) 512)
 stream_fits c t = is_stream_call c && t.piece == 0
 
--- two pieces in all of a read and of a write
+-- how many pieces a call may still take: a read and a write have two in all
 abbrev pub stream_left : SysCall → ℕ → ℕ
 stream_left (StreamRead fd i off len) n = 2 - n
 stream_left (StreamWrite fd i off bytes) n = 2 - n

@@ -1,6 +1,6 @@
 -- The undo log of a call: its records by level, and what undoing them gives. The records are a list
 -- of lists: innermost level first, newest first within a level. What a level found when it began is
--- what is left when the log is undone on the way outwards.
+-- what remains when the log is undone outward.
 use Rattle.std.specs.Prelude.{ℕ, List, [], ◌∷◌, ◌++◌, true, false, nat_le, length, map}
 use Rattle.kernel_data.specs.Objects.{Objects, Things}
 use Rattle.kernel_model.specs.Access.{Found, undo}
@@ -19,7 +19,7 @@ undo_all (i ∷ is) w = undo_all is (undo i w)
 abbrev pub undo_on : List Found → Objects → Objects
 undo_on is s = record s { things = undo_all is s.things }
 
--- What each level found when it began is the state once the records of that level, and of those
+-- What each level found when it began is the state after the records of that level, and of those
 -- inside it, are undone.
 abbrev pub kept_by_log : Things → List (List Found) → List Things
 kept_by_log w [] = []

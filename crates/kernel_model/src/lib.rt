@@ -10,9 +10,9 @@ pub use kernel_data::{
 };
 pub use rules::Rules;
 
-/// What one instruction of a graft came to: it went on; it waits for an object of this process, as
-/// a user lock or not; the call's level 0 returned this answer; or this level of the graft at
-/// (installer, point) was dropped.
+/// The outcome of one instruction of a graft: it went on; it waits for an object that this process
+/// holds, as a user lock or not; level 0 of the call returned this answer; or this level, of the
+/// graft at (installer, point), was dropped.
 #[derive(Clone, Copy)]
 pub enum Micro {
     Went,

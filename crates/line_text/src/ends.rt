@@ -75,7 +75,7 @@ pub fn print_loaded(n: u32, instructions: u32, bytes: u32, out: &mut Text)
     out.count = add(&mut out.cells, at, b"\n".as_slice());
 }
 
-/// What is written where the words of the command line aren't in the grammar.
+/// What is written if the words of the command line aren't in the grammar.
 pub fn usage() -> &'static [u8]
     ensures { result.now ≡ line usage_text }
 {

@@ -47,7 +47,8 @@ abbrev pub MayBeNeeded : ℕ → SysCall → Need → Type 0
 MayBeNeeded p c n =
     IsOwnFile p n.object × (n.by_user ≡ waits_for_user c n.object) × (is_graft n.object ≡ false)
 
--- two states come to the same: where they were the same they are so after, and the answers are equal
+-- two states come to the same: where they were the same they are so afterwards, and the answers are
+-- equal
 abbrev pub ComeToTheSame : (s u : Objects) → Outcome → Outcome → Type 0
 ComeToTheSame s u (Leaves x reply) (Leaves y answer) = Keeps s u x y × (reply ≡ answer)
 ComeToTheSame s u (Refused why) (Refused wherefore) = why ≡ wherefore

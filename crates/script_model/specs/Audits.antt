@@ -1,4 +1,5 @@
--- What `audit` answers: a claim of what a run writes, beside what it writes, line by line.
+-- What `audit` answers: it compares a claim of what a run writes with what the run writes, line by
+-- line.
 use Rattle.std.specs.Prelude.{ℕ, suc, Bool, true, false, ◌==◌, ◌&&◌, List, [], ◌∷◌, ◌++◌, take, drop}
 use Rattle.std.specs.Prelude.{codes, Option, None, Some, option_map}
 use Rattle.kernel_data.specs.World.{same_bytes}
@@ -11,13 +12,13 @@ use Rattle.script_model.specs.declared.Verdict.TheVariants.{Yes, No}
 
 -- ---- the verdict
 
--- what is left behind the last newline is a line too, if it is anything
+-- what is left after the last newline is a line too, unless it is empty
 abbrev pub last_piece : List ℕ → List (List ℕ)
 last_piece [] = []
 last_piece (b ∷ bs) = (b ∷ bs) ∷ []
 
--- the lines of a text, each with its newline, where `line` came before; a last piece that has no
--- newline is a line too
+-- the lines of a text, each with its newline, if `line` came before; a last part without a newline
+-- is a line too
 abbrev pub lines_from : List ℕ → List ℕ → List (List ℕ)
 lines_from line [] = last_piece line
 lines_from line (b ∷ bs) =
@@ -30,8 +31,8 @@ lines_from line (b ∷ bs) =
 abbrev pub lines_of : List ℕ → List (List ℕ)
 lines_of text = lines_from [] text
 
--- the number of the first line that differs, or that only one of two lists has, where the first
--- line is number n
+-- the number of the first line that differs, or that only one of two lists has; their first lines
+-- have number n
 abbrev pub first_difference : ℕ → List (List ℕ) → List (List ℕ) → Option ℕ
 first_difference n [] [] = None
 first_difference n [] (y ∷ ys) = Some n
@@ -39,28 +40,28 @@ first_difference n (x ∷ xs) [] = Some n
 first_difference n (x ∷ xs) (y ∷ ys) =
     elim (same_bytes x y) [ true ↦ first_difference (suc n) xs ys | false ↦ Some n ]
 
--- yes where there is no difference
+-- yes if there is no difference
 abbrev pub verdict_by : Option ℕ → Verdict
 verdict_by None = Yes
 verdict_by (Some n) = No n
 
--- The verdict on a claim of what is written: yes where it is that, and else the number, from 1, of
--- the first line that differs or that only one of the two has. A line without a newline differs
--- from the same line with one.
+-- The verdict on a claim of what is written: yes if the claim is right, otherwise the number, from
+-- 1, of the first line that differs or that only one of the two has. A line without a newline
+-- differs from the same line with one.
 abbrev pub verdict : (claim wanted : List ℕ) → Verdict
 verdict claim wanted = verdict_by (first_difference 1 (lines_of claim) (lines_of wanted))
 
--- What a run of this script writes over the sample disk, none of whose calls fails.
+-- What a run of this script writes over the sample disk if no disk call fails.
 abbrev pub wanted : Keys → List ℕ → List ℕ
 wanted keys script = written (outcome whole keys script End sample_disk [])
 
 -- ---- the input
 
--- the line that parts a script from a claim, with its newline
+-- the line that separates a script from a claim, with its newline
 abbrev pub PARTING : List ℕ
 PARTING = codes "%%" ++ 10 ∷ []
 
--- what stands before the first line `%%`, and what behind it, if there is one; `fresh` says that a
+-- what is before the first line `%%`, and what is after it, if there is one; `fresh` says that a
 -- line begins here
 abbrev pub parted_from : (fresh : Bool) → List ℕ → Option (List ℕ × List ℕ)
 parted_from fresh [] = None
@@ -70,6 +71,6 @@ parted_from fresh (b ∷ bs) =
       | false ↦ option_map (λ r. (b ∷ r.0, r.1)) (parted_from (b == 10) bs)
     ]
 
--- what stands before the first line `%%`, and what behind it, if there is one
+-- what is before the first line `%%`, and what is after it, if there is one
 abbrev pub parted : List ℕ → Option (List ℕ × List ℕ)
 parted input = parted_from true input

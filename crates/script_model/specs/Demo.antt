@@ -22,14 +22,14 @@ use Rattle.script_model.specs.Outcome.{left_lines}
 abbrev pub demo_keys : Keys
 demo_keys = record { first = replicate 32 0; second = None }
 
--- reads ahead what is left of three blocks, or three
+-- code that reads ahead three blocks, or fewer if fewer are left
 abbrev pub three : List Instr
 three =
     instr Sub 4 2 0 0 ∷ instr Li 5 0 0 3 ∷ instr Sltu 6 4 5 0 ∷ instr Jnz 6 0 0 6
     ∷ instr Mov 1 5 0 0 ∷ instr Ret 0 0 0 0
     ∷ instr Mov 1 4 0 0 ∷ instr Ret 0 0 0 0 ∷ []
 
--- gives the newest frame of its process
+-- code that gives the newest frame of its process
 abbrev pub newest_frame : List Instr
 newest_frame = instr Call 0 0 0 6 ∷ instr Addi 0 0 0 4294967295 ∷ instr Call 0 0 0 7
     ∷ instr Ret 0 0 0 0 ∷ []
@@ -46,7 +46,7 @@ graft_lines p =
     ∷ (codes "install" ++ spaced p ++ codes " 4 1 64") ∷ (codes "bill" ++ spaced p ++ codes " 4")
     ∷ []
 
--- the lines before the drawn ones
+-- the lines before the random ones
 abbrev pub head_lines : List (List ℕ)
 head_lines =
     codes "frames 8" ∷ codes "boot" ∷ image_line 0 three ∷ image_line 1 newest_frame
@@ -55,7 +55,7 @@ head_lines =
     ++ map (λ p. codes "open" ++ spaced p ++ codes " beta") (0 ∷ 1 ∷ 2 ∷ 3 ∷ [])
     ++ graft_lines 1 ++ graft_lines 2 ++ graft_lines 3
 
--- the draw after a draw
+-- the next random number after x
 abbrev pub next_draw : ℕ → ℕ
 next_draw x = (1103515245 * x + 12345) % 2 ^ 31
 
@@ -67,12 +67,13 @@ high_first x = x / 16777216 % 256 ∷ x / 65536 % 256 ∷ x / 256 % 256 ∷ x % 
 abbrev pub read_line : ℕ → ℕ → List ℕ
 read_line p i = codes "read" ++ spaced p ++ codes " 0" ++ spaced i ++ codes " 0 4"
 
--- a write of the draw's digits
+-- a write of the number x as four bytes
 abbrev pub write_line : ℕ → ℕ → ℕ → List ℕ
 write_line p i x = codes "write" ++ spaced p ++ codes " 0" ++ spaced i ++ codes " 0 "
     ++ hex_text (high_first x)
 
--- the line of a choice: three kinds of read in eight, a write, a yield, a tick, and two steps
+-- the line of a choice among eight: a read for three of them, a write, a yield, a tick, and a step
+-- for two
 abbrev pub line_by : (choice p i x : ℕ) → List ℕ
 line_by c p i x =
     cond (nat_le c 2) (read_line p i)
@@ -80,16 +81,16 @@ line_by c p i x =
     (cond (c == 4) (codes "yield" ++ spaced p)
     (cond (c == 5) (codes "tick") (codes "step" ++ spaced p ++ codes " 20"))))
 
--- the line of a draw
+-- the line of a random number
 abbrev pub line_of_draw : ℕ → List ℕ
 line_of_draw x = line_by (x / 262144 % 8) (x / 65536 % 4) (x / 2097152 % 40) x
 
--- the lines of n draws after x
+-- the lines of the n random numbers after x
 abbrev pub drawn_lines : ℕ → ℕ → List (List ℕ)
 drawn_lines zero x = []
 drawn_lines (suc n) x = line_of_draw (next_draw x) ∷ drawn_lines n (next_draw x)
 
--- the lines of the script of a number
+-- the lines of the script for a number
 abbrev pub demo_lines : ℕ → List (List ℕ)
 demo_lines n = head_lines ++ drawn_lines 5000 (n % 2 ^ 31)
 
@@ -122,8 +123,7 @@ summary_of n written notes =
 abbrev pub summary_by : ℕ → Written → List ℕ
 summary_by n w = summary_of n (w.bytes ++ left_lines w.session.kernel) w.notes
 
--- the line that `demo n` writes over a disk, of which `ios` says, line for line, which of its calls
--- fail
+-- the line that `demo n` writes over a disk; `ios` says, line by line, which disk calls fail
 abbrev pub summary : Build → ℕ → Disk → List (List Bool) → List ℕ
 summary b n d ios =
     summary_by n (after_lines b demo_keys d.size (first_session d) (demo_lines n) ios)

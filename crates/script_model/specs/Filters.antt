@@ -1,5 +1,5 @@
--- What `box`, `check`, `reseal`, `asm`, `dis`, `lang` and `audit` write about their input, and with
--- which status they end.
+-- What `box`, `check`, `reseal`, `asm`, `dis`, `lang` and `audit` write about their input, and the
+-- status with which they end.
 use Rattle.std.specs.Prelude.{◌≡◌, ℕ, ◌==◌, Bool, true, false, List, [], ◌∷◌, ◌++◌, codes, Option}
 use Rattle.std.specs.Prelude.{None, Some, Result, Ok, Err}
 use Rattle.kernel_data.specs.declared.Instr.{Instr}
@@ -29,7 +29,7 @@ use Rattle.graft_texts.specs.LanguageReading.{Syntax, read}
 use Rattle.graft_texts.specs.LanguageReading as language
 use Rattle.graft_texts.specs.LanguageImages.{IsCompiled}
 
--- what is asked of the input, under which keys
+-- what to do with the input, and under which keys
 pub data Filter : Type 0 where
   Box : Keys → (keep : Bool) → Filter
   Check : Keys → Filter
@@ -39,22 +39,22 @@ pub data Filter : Type 0 where
   Lang : Filter
   Audit : Keys → Filter
 
--- a status, and the bytes written
+-- a status, and the bytes that are written
 pub record Answer : Type 0 where
   pub status : ℕ
   pub written : List ℕ
 
--- an answer of this status
+-- an answer with this status
 abbrev pub answer : ℕ → List ℕ → Answer
 answer status written = record { status = status; written = written }
 
--- what stands before the first newline, and what stands behind it, if there is one
+-- what is before the first newline, and what is after it, if there is one
 abbrev pub first_line : List ℕ → List ℕ × Option (List ℕ)
 first_line [] = ([], None)
 first_line (b ∷ bytes) =
     elim (b == 10) [ true ↦ ([], Some bytes) | false ↦ let r = first_line bytes in (b ∷ r.0, r.1) ]
 
--- bytes, unless they are no hex, have no newline or have more behind it
+-- the bytes, or the refusal if they aren't hex, have no newline or have more after it
 abbrev pub hex_by : Option (List ℕ) → Option (List ℕ) → Result (List ℕ) (List ℕ)
 hex_by None rest = Err (codes "input S2")
 hex_by (Some bytes) None = Err (codes "input S6")
@@ -73,13 +73,14 @@ rewrite_fault_text (CallsUnknown pc) = codes "Call" ++ spaced pc
 rewrite_fault_text NoEnd = codes "End"
 rewrite_fault_text TooLong = codes "TooLarge"
 
--- an image sealed under the last key as hex, or why the code can't be boxed
+-- an image, sealed under the last key, as hex; or why the code can't be boxed
 abbrev pub boxed_answer : Keys → (keep : Bool) → List ℕ → Result (List Instr) RewriteFault → Answer
 boxed_answer keys keep body (Err fault) = answer 6 (line (rewrite_fault_text fault))
 boxed_answer keys keep body (Ok code) =
-    answer 0 (line (hex_text (sealed_under keys (record { code = code; body = body; keep = keep }))))
+    answer 0
+    (line (hex_text (sealed_under keys (record { code = code; body = body; keep = keep }))))
 
--- what `box` answers to a raw image: its image keeps the segments of its grafts where that is asked
+-- what `box` answers to a raw image; with `keep` the image keeps the segments of its grafts
 abbrev pub box_answer : Keys → (keep : Bool) → Result Image LoadFault → Answer
 box_answer keys keep (Err fault) = answer 6 (line (load_fault_text fault))
 box_answer keys keep (Ok i) = boxed_answer keys keep i.body (rewrite i.code)
@@ -89,7 +90,7 @@ abbrev pub check_answer : Result Image LoadFault → Answer
 check_answer (Err fault) = answer 6 (line (load_fault_text fault))
 check_answer (Ok i) = answer 0 (line (image_text i))
 
--- the image sealed anew as hex, or the refusal
+-- the image, sealed again, as hex; or the refusal
 abbrev pub reseal_answer : Result (List ℕ) LoadFault → Answer
 reseal_answer (Err fault) = answer 6 (line (load_fault_text fault))
 reseal_answer (Ok bytes) = answer 0 (line (hex_text bytes))
@@ -108,7 +109,7 @@ asm_kind_text LabelSetTwice = codes "A4"
 asm_kind_text TooManyInstructions = codes "A5"
 asm_kind_text BadData = codes "A6"
 
--- a line of assembler text that is refused
+-- the text for a refused line of assembler text
 abbrev pub line_fault_text : LineFault → List ℕ
 line_fault_text fault = codes "asm" ++ spaced fault.line ++ codes " " ++ asm_kind_text fault.kind
 
@@ -139,19 +140,19 @@ abbrev pub verdict_answer : Verdict → Answer
 verdict_answer Yes = answer 0 (line (codes "yes"))
 verdict_answer (No n) = answer 8 (line (codes "no" ++ spaced n))
 
--- what `audit` answers to a script and a claim of what it writes, if the input has a line that parts
--- them
+-- what `audit` answers to a script and a claim of what it writes, if the input has a line that
+-- separates them
 abbrev pub audit_answer : Keys → Option (List ℕ × List ℕ) → Answer
 audit_answer keys None = answer 2 (line (codes "input S6"))
 audit_answer keys (Some parts) = verdict_answer (verdict parts.1 (wanted keys parts.0))
 
--- the answer to a whole input, of every filter but `lang`
+-- the answer to a whole input, of every filter except `lang`
 abbrev pub input_answer : Filter → List ℕ → Answer
 input_answer Asm input = asm_answer (assemble input)
 input_answer (Audit keys) input = audit_answer keys (parted input)
 input_answer f input = hex_answer f (hex_line input)
 
--- the answer to an input that was taken so far and ended so
+-- the answer if these bytes of the input were taken and reading ended like this
 abbrev pub filter_answer : Filter → List ℕ → Ending → Answer
 filter_answer f taken End = input_answer f taken
 filter_answer f taken Fault = answer 3 []
@@ -168,7 +169,7 @@ lang_kind_text WrongArguments = codes "G4"
 lang_kind_text TooDeep = codes "G5"
 lang_kind_text TooManyTokens = codes "G6"
 
--- a line of the graft language that is refused
+-- the text for a refused line of the graft language
 abbrev pub lang_fault_text : language.LineFault → List ℕ
 lang_fault_text fault = codes "lang" ++ spaced fault.line ++ codes " " ++ lang_kind_text fault.kind
 
@@ -182,12 +183,13 @@ pub record WritesImageOf (text : List ℕ) (a : Answer) : Type 0 where
   pub is_compiled : IsCompiled text image
   pub is_written : a ≡ raw_answer image
 
--- an answer of `lang` to a text of which this is read: the refusal, or an image of the text
+-- an answer of `lang` to a text with this result of reading it: the refusal, or an image of the
+-- text
 abbrev pub AnswersText : (text : List ℕ) → Result Syntax language.LineFault → Answer → Type 0
 AnswersText text (Err fault) a = a ≡ lang_refusal fault
 AnswersText text (Ok syntax) a = WritesImageOf text a
 
--- an answer to an input that was taken so far and ended so
+-- an answer if these bytes of the input were taken and reading ended like this
 abbrev pub IsFilterAnswer : Filter → List ℕ → Ending → Answer → Type 0
 IsFilterAnswer Lang taken End a = AnswersText taken (read taken) a
 IsFilterAnswer f taken ending a = a ≡ filter_answer f taken ending

@@ -1,4 +1,4 @@
--- What a whole run writes, and with which status it ends.
+-- What a whole run writes, and the status with which it ends.
 use Rattle.std.specs.Prelude.{◌≡◌, ℕ, suc, ◌<◌, Bool, true, false, cond, ◌||◌, ◌==◌, List, [], ◌∷◌}
 use Rattle.std.specs.Prelude.{◌++◌, length, take, Option, None, Some, flat_map}
 use Rattle.std.specs.List.{concat}
@@ -20,8 +20,8 @@ ends_line text byte = byte == 10 || length text == LINE_BYTES
 abbrev pub ended_line : List ℕ → ℕ → List ℕ
 ended_line text byte = cond (byte == 10) text (text ++ byte ∷ [])
 
--- The lines that end among these bytes, where `text` came before them. A line ends with its
--- newline, or with the byte that makes it too long.
+-- The lines that end among these bytes, if `text` came before them. A line ends with its newline,
+-- or with the byte that makes it too long.
 abbrev pub lines_after : List ℕ → List ℕ → List (List ℕ)
 lines_after text [] = []
 lines_after text (byte ∷ bytes) =
@@ -30,7 +30,7 @@ lines_after text (byte ∷ bytes) =
       | false ↦ lines_after (text ++ byte ∷ []) bytes
     ]
 
--- the bytes behind the last line that ended, where `text` came before
+-- the bytes after the last line that ended, if `text` came before
 abbrev pub rest_after : List ℕ → List ℕ → List ℕ
 rest_after text [] = text
 rest_after text (byte ∷ bytes) =
@@ -45,7 +45,7 @@ SCRIPT_BYTES = 16777216
 
 -- ---- the end of a run
 
--- how reading ends, unless it stops behind a refused line
+-- how reading ends, unless it stops after a refused line
 pub data Ending : Type 0 where
   -- at the end of the input
   End : Ending
@@ -54,8 +54,8 @@ pub data Ending : Type 0 where
   -- with one byte more than a script may have
   Over : Ending
 
--- a status, the pieces that are written (one for each line, and the last lines of the run), and the
--- disk's blocks
+-- a status, the pieces of the output (one for each line, and one for the last lines of the run),
+-- and the disk's blocks
 pub record Outcome : Type 0 where
   pub status : ℕ
   pub pieces : List (List ℕ)
@@ -75,36 +75,35 @@ abbrev pub left_lines : Option Kernel → List ℕ
 left_lines None = []
 left_lines (Some k) = flat_map (λ p. left_line p (k.call p)) processes
 
--- an outcome of this status, whose last piece is written after the others
+-- an outcome with this status, with this last piece after the others
 abbrev pub ends_with : ℕ → Session → List (List ℕ) → List ℕ → Outcome
 ends_with status s pieces last =
     record { status = status; pieces = pieces ++ last ∷ []; blocks = s.blocks }
 
--- an outcome of this status, and no more is written
+-- an outcome with this status and no further piece
 abbrev pub ends_as : ℕ → Session → List (List ℕ) → Outcome
 ends_as status s pieces = record { status = status; pieces = pieces; blocks = s.blocks }
 
--- the input ends, where these bytes stand behind the last line
+-- the outcome at the end of the input, if these bytes are left after the last line
 abbrev pub at_end : Session → List (List ℕ) → List ℕ → Outcome
 at_end s pieces [] = ends_with 0 s pieces (left_lines s.kernel)
 at_end s pieces (byte ∷ bytes) = ends_with 2 s pieces (line (fault_text (suc s.lines) Unfinished))
 
--- reading ends, where no line is refused
+-- the outcome when reading ends, if no line is refused
 abbrev pub at_ending : Ending → Session → List (List ℕ) → List ℕ → Outcome
 at_ending End s pieces rest = at_end s pieces rest
 at_ending Fault s pieces rest = ends_as 3 s pieces
 at_ending Over s pieces rest = ends_as 7 s pieces
 
--- the outcome for a session after all lines; where one was refused, it doesn't matter how reading
--- ends
+-- the outcome for a session after all lines; if one was refused, it doesn't matter how reading ends
 abbrev pub outcome_of : Ending → Session → List (List ℕ) → List ℕ → Outcome
 outcome_of e s pieces rest =
     elim s.refused [ true ↦ ends_as 2 s pieces | false ↦ at_ending e s pieces rest ]
 
--- A run that took these bytes and ended so has a status, pieces and the disk's blocks: 2 where a
--- line is refused, else 3 after a failed read, 7 past the most bytes, 2 for an unfinished line, and
--- 0 with the lines of calls left in flight. `ios` says, line for line, which calls of the disk
--- fail.
+-- The outcome of a run that took these bytes, if reading ended like this. The status is 2 if a line
+-- is refused; otherwise 3 after a failed read, 7 if the script has too many bytes, 2 if a line is
+-- unfinished, and 0 with the lines of the calls left in flight. `ios` says, line by line, which
+-- disk calls fail.
 abbrev pub outcome : Build → Keys → (taken : List ℕ) → Ending → Disk → List (List Bool) → Outcome
 outcome b keys taken e d ios =
     let script = take SCRIPT_BYTES taken in
@@ -113,7 +112,7 @@ outcome b keys taken e d ios =
     outcome_of e (session_after b keys d.size s lines ios) (pieces_of b keys d.size s lines ios)
     (rest_after [] script)
 
--- bytes that stop within a piece: some pieces whole, and not all of the next
+-- bytes that stop within a piece: they are some whole pieces, and a part of the next one
 pub record IsCutShort (pieces : List (List ℕ)) (bytes : List ℕ) : Type 0 where
   pub done : List (List ℕ)
   pub next : List ℕ

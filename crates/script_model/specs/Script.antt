@@ -1,5 +1,5 @@
--- What a line of a script says, or why it is refused. Commands and the forms of their words
--- (`Command`, `CallName`, `Form`) are declared in the crate's code.
+-- What a line of a script says, or why it is refused. The crate's code declares the commands and
+-- the forms of their words (`Command`, `CallName`, `Form`).
 use Rattle.std.specs.Prelude.{ℕ, Bool, true, false, cond, not, ◌&&◌, ◌||◌, ◌==◌, nat_lt, nat_le}
 use Rattle.std.specs.Prelude.{List, [], ◌∷◌, ◌++◌, length, slice_index, Option, None, Some, Result}
 use Rattle.std.specs.Prelude.{Ok, Err, codes, find, position}
@@ -50,7 +50,7 @@ fault_number Unfinished = 6
 
 -- ---- words
 
--- the words of a line, parted by single spaces, where `word` came before
+-- the words of a line, separated by single spaces, if `word` came before
 abbrev pub words_after : List ℕ → List ℕ → List (List ℕ)
 words_after word [] = word ∷ []
 words_after word (byte ∷ bytes) =
@@ -59,7 +59,7 @@ words_after word (byte ∷ bytes) =
       | false ↦ words_after (word ++ byte ∷ []) bytes
     ]
 
--- the words of a line, parted by single spaces
+-- the words of a line, separated by single spaces
 abbrev pub words_of : List ℕ → List (List ℕ)
 words_of text = words_after [] text
 
@@ -73,12 +73,12 @@ abbrev pub other_words : List (List ℕ) → List (List ℕ)
 other_words [] = []
 other_words (w ∷ ws) = ws
 
--- the last of these words, or the one before them
+-- the last of these words, or `word` if there are none
 abbrev pub last_word : List ℕ → List (List ℕ) → List ℕ
 last_word word [] = word
 last_word word (w ∷ ws) = last_word w ws
 
--- a word has no bytes
+-- a word is empty
 abbrev pub is_empty : List ℕ → Bool
 is_empty [] = true
 is_empty (b ∷ bs) = false
@@ -95,34 +95,34 @@ object_kinds =
 abbrev pub amounts : List (List ℕ)
 amounts = codes "steps" ∷ codes "records" ∷ codes "locks" ∷ []
 
--- the kind of amount at a place of that list
+-- the kind of amount at a place in that list
 abbrev pub amount_at : ℕ → Kind
 amount_at n = cond (n == 0) Steps (cond (n == 1) Records Locks)
 
--- the number that a word says: a kind says its place in its list; a text says 0, and is read by its
--- command
+-- the number that a word says: a kind says its place in its list; a text says 0, and its command
+-- reads it
 abbrev pub number_said : Form → List ℕ → Option ℕ
 number_said Number word = number_of word
 number_said ObjectKind word = position (same_bytes word) object_kinds
 number_said Amount word = position (same_bytes word) amounts
 number_said Text word = Some 0
 
--- there is nothing
+-- there is no number
 abbrev pub is_none : Option ℕ → Bool
 is_none None = true
 is_none (Some n) = false
 
--- a word that is to be of a list isn't one of it
+-- a word must be in a list and isn't
 abbrev pub is_unlisted : Form → List ℕ → Bool
 is_unlisted ObjectKind word = is_none (number_said ObjectKind word)
 is_unlisted Amount word = is_none (number_said Amount word)
 is_unlisted _ word = false
 
--- a word is empty, or it is to be of a list and isn't
+-- a word is empty, or must be in a list and isn't
 abbrev pub is_bad_word : Form → List ℕ → Bool
 is_bad_word form word = is_empty word || is_unlisted form word
 
--- as many words as forms, and none of them bad
+-- there are as many words as forms, and none of them is bad
 abbrev pub is_well_formed : List Form → List (List ℕ) → Bool
 is_well_formed [] [] = true
 is_well_formed [] (w ∷ ws) = false
@@ -136,12 +136,12 @@ numbers_after ns (f ∷ fs) [] = Some ns
 numbers_after ns (f ∷ fs) (w ∷ ws) =
     elim (number_said f w) [ None ↦ None | Some n ↦ numbers_after (ns ++ n ∷ []) fs ws ]
 
--- numbers and the last word, if all words say numbers
+-- the numbers and the last word, if all words say numbers
 abbrev pub said_by : List ℕ → Option (List ℕ) → Result (List ℕ × List ℕ) ScriptFault
 said_by last None = Err BadNumber
 said_by last (Some ns) = Ok (ns, last)
 
--- the numbers that words say, after others, with the last word; or why they are refused
+-- the numbers that words say, after others, and the last word; or why the words are refused
 abbrev pub words_said : List ℕ → List ℕ → List Form → List (List ℕ) →
     Result (List ℕ × List ℕ) ScriptFault
 words_said ns last forms words =
@@ -158,7 +158,7 @@ is_file_name text = nat_le 1 (length text) && nat_le (length text) 16 && list_al
 abbrev pub name_word : List ℕ → Option (List ℕ)
 name_word text = cond (is_file_name text) (Some text) None
 
--- the most hex digits of a `write`, a `swrite` and a `serve`, which carry a block at most
+-- the most hex digits of a `write`, a `swrite` or a `serve`, which carry at most one block
 abbrev pub WRITE_DIGITS : ℕ
 WRITE_DIGITS = 1024
 
@@ -219,7 +219,7 @@ all_commands =
     ∷ Call CallName.Bill ∷ Call CallName.Serve ∷ Call CallName.StreamRead
     ∷ Call CallName.StreamWrite ∷ []
 
--- a command stands before `boot`
+-- a command belongs before `boot`
 abbrev pub is_setup : Command → Bool
 is_setup Command.Frames = true
 is_setup Command.Patience = true
@@ -227,7 +227,7 @@ is_setup Command.Grant = true
 is_setup Command.Boot = true
 is_setup _ = false
 
--- the words of a system call after that of the process
+-- the forms of the words of a system call after that of the process
 abbrev pub call_forms : CallName → List Form
 call_forms CallName.Spawn = []
 call_forms CallName.Exit = []
@@ -252,7 +252,7 @@ call_forms CallName.Serve = Number ∷ Text ∷ []
 call_forms CallName.StreamRead = Number ∷ Number ∷ Number ∷ Number ∷ []
 call_forms CallName.StreamWrite = Number ∷ Number ∷ Number ∷ Text ∷ []
 
--- the words of a command after its own; a system call begins with its process
+-- the forms of the words after the command's own; a system call begins with its process
 abbrev pub forms_of : Command → List Form
 forms_of Command.Frames = Number ∷ []
 forms_of Command.Patience = ObjectKind ∷ Number ∷ []
@@ -269,7 +269,7 @@ abbrev pub open_by : Option (List ℕ) → Option SysCall
 open_by None = None
 open_by (Some name) = Some (OpenName name)
 
--- the bytes that `write` puts into block i of a file, from off on
+-- the bytes that `write` puts into block i of a file, from offset off
 abbrev pub write_by : (fd i off : ℕ) → Option (List ℕ) → Option SysCall
 write_by fd i off None = None
 write_by fd i off (Some bytes) = Some (SysCall.Write fd i off bytes)
@@ -284,8 +284,7 @@ abbrev pub stream_write_by : (fd i off : ℕ) → Option (List ℕ) → Option S
 stream_write_by fd i off None = None
 stream_write_by fd i off (Some bytes) = Some (StreamWrite fd i off bytes)
 
--- a system call by the numbers of its words, of which the first is the process, and by its last
--- word
+-- a system call by the numbers of its words (the first is the process) and by its last word
 abbrev pub call_of : CallName → List ℕ → List ℕ → Option SysCall
 call_of CallName.Spawn n last = Some SysCall.Spawn
 call_of CallName.Exit n last = Some SysCall.Exit
@@ -329,7 +328,7 @@ abbrev pub loads_by : ℕ → Option (List ℕ) → Result Entry ScriptFault
 loads_by slot None = Err BadNumber
 loads_by slot (Some bytes) = Ok (Loads slot bytes)
 
--- an entry whose number is within bounds, or a bad number
+-- an entry if its number is within bounds, otherwise a bad number
 abbrev pub within : (low high n : ℕ) → Entry → Result Entry ScriptFault
 within low high n entry = cond (nat_le low n && nat_le n high) (Ok entry) (Err BadNumber)
 
@@ -346,7 +345,7 @@ entry_of Command.Raw n last = Ok Raw
 entry_of Command.Image n last = loads_by (slice_index n 0) (hex_word IMAGE_DIGITS last)
 entry_of (Call name) n last = happens_by (slice_index n 0) (call_of name n last)
 
--- the command of a word
+-- the command that a word names
 abbrev pub command_named : List ℕ → Option Command
 command_named word = find (λ c. same_bytes (command_word c) word) all_commands
 
@@ -355,11 +354,11 @@ abbrev pub entry_by : Command → Result (List ℕ × List ℕ) ScriptFault → 
 entry_by c (Err fault) = Err fault
 entry_by c (Ok said) = entry_of c said.0 said.1
 
--- both or neither
+-- both are true, or neither is
 abbrev pub same_bool : Bool → Bool → Bool
 same_bool a b = cond a b (not b)
 
--- a line of a command, by the words after the first
+-- what a line with this command says, by the words after the first, or why it is refused
 abbrev pub entry_at : Bool → List (List ℕ) → Option Command → Result Entry ScriptFault
 entry_at booted words None = Err UnknownCommand
 entry_at booted words (Some c) =

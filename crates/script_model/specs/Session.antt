@@ -1,4 +1,4 @@
--- How a script runs, line by line: what each line makes of the session, and what it writes.
+-- How a script runs, line by line: how each line changes the session, and what it writes.
 use Rattle.std.specs.Prelude.{ℕ, suc, Bool, true, false, List, [], ◌∷◌, ◌++◌, drop, is_some}
 use Rattle.std.specs.Prelude.{Option, None, Some, Result, Ok, Err, codes, decimal}
 use Rattle.kernel_data.specs.declared.TheConstants.{LAST_CALLABLE}
@@ -23,13 +23,13 @@ use Rattle.script_model.specs.Script.{Raw, ScriptFault, fault_number, parsed_lin
 
 -- ---- what is run
 
--- what of the product is built: the meaning of its system calls, and the highest id that grafts may
+-- what a kernel is built with: the meaning of its system calls, and the highest id that grafts may
 -- call
 pub record Build : Type 0 where
   pub meaning : Meaning
   pub callable : ℕ
 
--- all calls, and all of the callable list
+-- the whole product: all calls, and the whole callable list
 abbrev pub whole : Build
 whole = record { meaning = all_calls; callable = LAST_CALLABLE }
 
@@ -39,7 +39,7 @@ pub record Setup : Type 0 where
   pub patience : ℕ → ℕ
   pub grant : ℕ
 
--- the set-up where no line sets it
+-- the set-up if no line sets anything
 abbrev pub first_setup : Setup
 first_setup = record { frames = 8; patience = λ kind. 10; grant = 1000000 }
 
@@ -59,8 +59,8 @@ pub record Session : Type 0 where
   -- a line was refused, and no other is run
   pub refused : Bool
 
--- what a line makes of a session: the session, the bytes written, the notes among them, and what
--- was told of calls of the disk that it didn't make
+-- what a line gives: the new session, the bytes that it writes, the notes among them, and what was
+-- said of disk calls that it didn't make
 pub record Written : Type 0 where
   pub session : Session
   pub bytes : List ℕ
@@ -78,7 +78,7 @@ first_session d = record {
   refused = false;
 }
 
--- bytes are written, none of them a note's, and the disk isn't called
+-- bytes are written that belong to no note, and the disk isn't called
 abbrev pub says : Session → List ℕ → List Bool → Written
 says s bytes io = record { session = s; bytes = bytes; notes = []; io = io }
 
@@ -96,7 +96,8 @@ fault_text n fault = codes "script" ++ spaced n ++ codes " S" ++ decimal (fault_
 abbrev pub refuses_line : Session → ScriptFault → List Bool → Written
 refuses_line s fault io = says (record s { refused = true }) (line (fault_text s.lines fault)) io
 
--- what no event changes, after these set-up lines, over a disk of this size with this directory
+-- the world, which no event changes, after these set-up lines, over a disk of this size with this
+-- directory
 abbrev pub world_of : Setup → (size callable : ℕ) → List (Option FileRow) → World
 world_of u size callable rows =
     record {
@@ -108,11 +109,11 @@ world_of u size callable rows =
       callable = callable;
     }
 
--- a session after boot
+-- a session after `boot`
 abbrev pub booted : Session → World → List ℕ → List Bool → Written
 booted s v text io = says (record s { kernel = Some (opening_kernel v) }) (line text) io
 
--- a boot reads block 0; where that fails, the directory is empty
+-- `boot` reads block 0; if that fails, the directory is empty
 abbrev pub boots : (size callable : ℕ) → Session → List Bool → Written
 boots size callable s io =
     let rows = directory_of size (s.blocks 0) in
@@ -127,7 +128,7 @@ abbrev pub after_image : Session → ℕ → Kernel × List ℕ → List Bool �
 after_image s n r io =
     says (record s { kernel = Some r.0; events = n }) (line (decimal n ++ 32 ∷ r.1)) io
 
--- an image line of a session
+-- a session after an image line
 abbrev pub image_line_run : Session → ℕ → Result Image LoadFault → Kernel → List Bool → Written
 image_line_run s slot loaded k io = after_image s (suc s.events) (image_answer slot loaded k) io
 
@@ -157,13 +158,13 @@ abbrev pub first_io : List (List Bool) → List Bool
 first_io [] = []
 first_io (io ∷ rest) = io
 
--- the lists after the first
+-- the lists after the first one
 abbrev pub later_io : List (List Bool) → List (List Bool)
 later_io [] = []
 later_io (io ∷ rest) = rest
 
 module _ (b : Build) (keys : Keys) (size : ℕ) where
-  -- an entry after `boot`
+  -- a session with this kernel after an entry
   abbrev pub running : Session → Entry → Kernel → List Bool → Written
   running s (Happens e) k io =
       after_event s (suc s.events) (event b.meaning k s.blocks (suc s.events) e io)
@@ -172,12 +173,12 @@ module _ (b : Build) (keys : Keys) (size : ℕ) where
       says (record s { events = suc s.events }) (row_lines (suc s.events) (raw_rows b.meaning k)) io
   running s _ k io = silent s io
 
-  -- an entry after `boot`, for the kernel if there is one
+  -- a session after an entry that needs the kernel; without a kernel nothing happens
   abbrev pub running_in : Session → Entry → Option Kernel → List Bool → Written
   running_in s e None io = silent s io
   running_in s e (Some k) io = running s e k io
 
-  -- what an entry makes of a session
+  -- a session after an entry
   abbrev pub after_entry : Session → Entry → List Bool → Written
   after_entry s Blank io = silent s io
   after_entry s (Frames n) io = silent (record s { setup = record (s.setup) { frames = n } }) io
@@ -187,13 +188,12 @@ module _ (b : Build) (keys : Keys) (size : ℕ) where
   after_entry s Boot io = boots size b.callable s io
   after_entry s e io = running_in s e s.kernel io
 
-  -- what a parsed line makes of a session
+  -- a session after a parsed line
   abbrev pub after_parse : Session → Result Entry ScriptFault → List Bool → Written
   after_parse s (Err fault) io = refuses_line s fault io
   after_parse s (Ok e) io = after_entry s e io
 
-  -- what a line makes of a session, with what its calls of the disk will do; after a refused line
-  -- there is no other
+  -- a session after a line, if its disk calls do what `io` says; after a refused line no other runs
   abbrev pub after_line : Session → List ℕ → List Bool → Written
   after_line s text io =
       elim s.refused [
@@ -202,14 +202,15 @@ module _ (b : Build) (keys : Keys) (size : ℕ) where
             (parsed_line (is_some s.kernel) text) io
       ]
 
-  -- what lines make of a session, in order, with one list for each line's calls of the disk
+  -- a session after these lines in order, and all that they write; one list says what the disk
+  -- calls of each line do
   abbrev pub after_lines : Session → List (List ℕ) → List (List Bool) → Written
   after_lines s [] ios = silent s []
   after_lines s (text ∷ texts) ios =
       let w = after_line s text (first_io ios) in
       and_then w (after_lines w.session texts (later_io ios))
 
-  -- the session after lines, with one list for each line's calls of the disk
+  -- the session after these lines; one list says what the disk calls of each line do
   abbrev pub session_after : Session → List (List ℕ) → List (List Bool) → Session
   session_after s [] ios = s
   session_after s (text ∷ texts) ios =

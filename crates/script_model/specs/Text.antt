@@ -1,4 +1,4 @@
--- The lines that are written, byte for byte: of notes, of raw rows, and of the ends of a run.
+-- The lines that are written, byte for byte: those of notes, of raw rows, and of the end of a run.
 use Rattle.std.specs.Prelude.{ℕ, cond, Bool, List, [], ◌∷◌, ◌++◌, codes, decimal, flat_map, Option, None, Some}
 use Rattle.kernel_data.specs.declared.Object.{Object}
 use Rattle.kernel_data.specs.declared.Object.TheVariants.{Graft, Acct, Cell, OpenFile, Queue, Cache, Lock, Pol}
@@ -64,7 +64,7 @@ reply_text Reply.Plain = []
 reply_text (Reply.One a) = spaced a
 reply_text (Reply.Two a b) = spaced a ++ spaced b
 
--- the code of a refusal, and what it adds
+-- the code of a refusal, and the numbers that it adds
 abbrev pub refusal_text : Refusal → List ℕ
 refusal_text NoProcess = codes "E1"
 refusal_text (Busy m) = codes "E2" ++ spaced m
@@ -167,7 +167,7 @@ abbrev pub open_text : OpenRow → List ℕ
 open_text o = spaced o.next ++ spaced o.window ++ spaced (bit o.seq) ++ spaced o.start
     ++ spaced o.count
 
--- a raw row, without the number of its event
+-- the text of a raw row, without the number of its event
 abbrev pub row_text : RawRow → List ℕ
 row_text (RawRow.Clock t) = codes "clock" ++ spaced t
 row_text (RawRow.Queue rows) = codes "queue" ++ flat_map queue_text rows
@@ -191,17 +191,17 @@ row_text (RawRow.Undo p d i) = codes "undo" ++ spaced p ++ spaced d ++ 32 ∷ in
 abbrev pub row_lines : ℕ → List RawRow → List ℕ
 row_lines n rows = flat_map (λ r. line (decimal n ++ codes " raw " ++ row_text r)) rows
 
--- ---- the lines of a run that are of no event
+-- ---- the lines of a run that belong to no event
 
--- frames, blocks of the disk, usable files
+-- the line of `boot`: the numbers of frames, of the disk's blocks and of usable files
 abbrev pub boot_text : ℕ → ℕ → ℕ → List ℕ
 boot_text frames blocks files = codes "0 boot" ++ spaced frames ++ spaced blocks ++ spaced files
 
--- a call of process p is left in flight
+-- the line of a call of process p that is left in flight
 abbrev pub left_text : ℕ → ℕ → List ℕ
 left_text p m = codes "left" ++ spaced p ++ spaced m
 
--- what is written where the words of the command line are not in the grammar
+-- what is written if the words of the command line aren't in the grammar
 abbrev pub usage_text : List ℕ
 usage_text =
     codes "usage: vino run KEYS [PATH] | box KEYS [keep] | check KEYS | reseal KEYS | asm | dis | lang | audit KEYS | demo N"

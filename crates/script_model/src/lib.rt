@@ -1,4 +1,4 @@
-//! Scripts: their lines, what they make of a session, and what is written.
+//! Scripts: their lines, how these change a session, and what is written.
 #![tactic(auto)]
 
 pub use graft_code::Keys;
@@ -51,14 +51,14 @@ pub enum Command {
     Call(CallName),
 }
 
-/// Whether a claim is what a run writes, and else the number, from 1, of its first line that isn't.
+/// Whether a claim is what a run writes; if not, the number, from 1, of the first line that differs.
 #[derive(Clone, Copy, PartialEq, Eq, Debug)]
 pub enum Verdict {
     Yes,
     No(u32),
 }
 
-/// What kind of word stands at a place of a script's line.
+/// What kind of word is at a place in a script's line.
 #[derive(Clone, Copy)]
 pub enum Form {
     /// A decimal number.

@@ -1,5 +1,6 @@
 -- Proofs that each line is answered before more is read.
-use Rattle.std.specs.Prelude.{◌≡◌, ◌≢◌, ◌==◌, ◌⊎◌, ℕ, ◌≤◌, Bool, true, false, cond, List, [], ◌∷◌, length, take, Option, Some}
+use Rattle.std.specs.Prelude.{◌≡◌, ◌≢◌, ◌==◌, ◌⊎◌, ℕ, ◌≤◌, Bool, true, false, cond, List, [], ◌∷◌}
+use Rattle.std.specs.Prelude.{length, take, Option, Some}
 use Rattle.std.specs.List.{concat}
 use Rattle.std.specs.Io.KnownBytes.{Appends}
 use Rattle.std.proofs.Common.{arith, refl, subst, sym, ap, ◌∙◌, inl, inr}
@@ -8,12 +9,14 @@ use Rattle.vino_base.specs.declared.health.Health.{Health}
 use Rattle.vino_base.specs.declared.health.Health.TheVariants.{Sound, Broken}
 use Rattle.vino_base.specs.Streams.{SourceSeen, IsUsed, health_after}
 use Rattle.commands.specs.Filtered.{HasEnded}
-use Rattle.script_model.specs.Outcome.{SCRIPT_BYTES, Ending, End, Fault, Over, Outcome, written, ends_as, at_ending, rest_after}
+use Rattle.script_model.specs.Outcome.{SCRIPT_BYTES, Ending, End, Fault, Over, Outcome, written}
+use Rattle.script_model.specs.Outcome.{ends_as, at_ending, rest_after}
 use Rattle.script_model.specs.Session.{Session}
 use Rattle.vino_top.specs.Answered.{AnsweredBeforeFault, AnswersBeforeReads}
 use Rattle.vino_top.specs.Does.{RunDoes}
 use Rattle.vino_top.specs.Parsed.{Parsed, text_parsed, status_by}
-use Rattle.vino_top.specs.Run.{Place, place, Devices, Ran, IsFirst, outcome_at, first_on, script_lines, pieces_run}
+use Rattle.vino_top.specs.Run.{Place, place, Devices, Ran, IsFirst, outcome_at, first_on}
+use Rattle.vino_top.specs.Run.{script_lines, pieces_run}
 
 -- a device that wasn't blamed is sound
 not_broken : (h : Option Health) (failed : Bool) → h ≡ Some (health_after failed Sound) → h ≡ Some Broken → failed ≡ true

@@ -8,7 +8,8 @@ use Rattle.script_model.specs.declared.Keys.{Keys}
 use Rattle.script_model.specs.Outcome.{SCRIPT_BYTES}
 use Rattle.commands.specs.declared.command_line.Asked.TheVariants.{Run}
 use Rattle.vino_top.specs.Does.{Does}
-use Rattle.vino_top.specs.Run.{Place, place, Devices, MadeAll, ForEachSession, IsFirst, UsesAll, script_lines, pieces_run}
+use Rattle.vino_top.specs.Run.{Place, place, Devices, MadeAll, ForEachSession, IsFirst, UsesAll}
+use Rattle.vino_top.specs.Run.{script_lines, pieces_run}
 
 -- The source gave some bytes, and then a read of it failed. By then all lines among these bytes had
 -- been run, and the sink had taken what they write, and no more. No write had failed; so none came
