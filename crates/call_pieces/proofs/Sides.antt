@@ -1,5 +1,5 @@
 -- What a call of one of two tables is by both as one.
-use Rattle.std.specs.Prelude.{IfOk}
+use Rattle.std.specs.Prelude.{IfOk, IfSome, Some, None, [], ◌∷◌}
 use Rattle.std.proofs.Common.{◌≡◌, ℕ, ◌≤◌, Bool, true, false, cond, List, Option, Result, Ok, Err, sym, ◌∙◌, ap}
 use Rattle.kernel_model.specs.declared.SysCall.{SysCall}
 use Rattle.kernel_model.specs.declared.Refusal.{Refusal}
@@ -12,6 +12,7 @@ use Rattle.kernel_model.specs.Laws.{Laws}
 use Rattle.call_needs.specs.Masks.{table_of_mask, mask_tells}
 use Rattle.call_needs.specs.Works.{IsDue, stage_granted}
 use Rattle.call_pieces.specs.Matching.{PieceMatchesSome}
+use Rattle.call_pieces.specs.Taking.{taking}
 
 -- ---- calls that are granted
 
@@ -40,6 +41,15 @@ module _ (owns : SysCall → Bool) (a b : Meaning) where
       owns c ≡ o → owns t.call ≡ o
   its_own o la lb v bits p c t granted e =
       ap owns (same_call (side o) (laws_of o la lb) v bits p c t granted) ∙ e
+
+  -- the user lock that the next piece takes, by its own table
+  pub taken_of : (o : Bool) (t : Stage) (r : Option ℕ) → owns t.call ≡ o →
+      IfSome r (λ u. (v : World) (s : Objects) (p : ℕ) → (side o).need v s p t ≡ taking u ∷ []) →
+      IfSome r (λ u. (v : World) (s : Objects) (p : ℕ) →
+      (beside owns a b).need v s p t ≡ taking u ∷ [])
+  taken_of true t (Some u) e h = λ v s p. rw e (h v s p)
+  taken_of false t (Some u) e h = λ v s p. rw e (h v s p)
+  taken_of o t None e h = h
 
   due_at : (o : Bool) (v : World) (s : Objects) (p : ℕ) (t : Stage) → owns t.call ≡ o →
       IsDue (side o) v s p t → IsDue (beside owns a b) v s p t

@@ -19,4 +19,5 @@ pub mod Matching
 pub mod Callers
 pub mod Queues
 pub mod Shared
+pub mod Taking
 pub use Rattle.call_needs.specs.Works

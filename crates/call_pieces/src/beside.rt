@@ -63,6 +63,15 @@ impl<A: Calls, B: Calls> Calls for Beside<A, B> {
         }
     }
 
+    #[inline(always)]
+    fn lock_taken(work: &Work) -> Option<u32> {
+        if A::owns(work.call) {
+            A::lock_taken(work)
+        } else {
+            B::lock_taken(work)
+        }
+    }
+
     fn asks<P: Policy>(work: &Work, store: &Store<P>) -> Option<Point> {
         if A::owns(work.call) {
             A::asks(work, store)

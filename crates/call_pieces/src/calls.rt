@@ -9,8 +9,10 @@ use kernel_state::{Disk, DiskLog, Policy, Store};
 
 /// A table of system calls, each of which is refused at once or is in flight until a piece ends it.
 pub trait Calls {
-    ghost use Rattle.std.specs.Prelude.{◌≡◌, ℕ, ◌<◌, ◌≤◌, ◌+◌, true, List, Bool, [], ◌++◌, None, length, IfOk, IfErr};
-    ghost use Rattle.kernel_model.specs.World.{ImageTable, Blocks};
+    ghost use Rattle.std.specs.Prelude.{◌≡◌, ℕ, ◌<◌, ◌≤◌, ◌+◌, true, List, Bool, [], ◌∷◌, ◌++◌, None, length};
+    ghost use Rattle.std.specs.Prelude.{IfOk, IfErr, IfSome};
+    ghost use Rattle.kernel_model.specs.World.{World, ImageTable, Blocks};
+    ghost use Rattle.kernel_model.specs.Objects.{Objects};
     ghost use Rattle.kernel_model.specs.declared.SysCall.{SysCall};
     ghost use Rattle.kernel_model.specs.Laws.{IsRightAnswer};
     ghost use Rattle.kernel_model.specs.Bare.{call_with};
@@ -20,6 +22,7 @@ pub trait Calls {
     ghost use Rattle.call_needs.specs.Fetching.{has_failed};
     ghost use Rattle.kernel_model.specs.ImageMask.{TellsImages};
     ghost use Rattle.call_pieces.specs.EarlyFaults.{HasNoEarlyFault};
+    ghost use Rattle.call_pieces.specs.Taking.{taking};
     ghost use Rattle.call_needs.specs.Works.{IsDue, stage_of, stage_granted, answer_seen};
     ghost use Rattle.call_pieces.specs.Matching.{PieceMatches, PieceMatchesSome, ContinuesFrom};
     ghost use Rattle.call_pieces.specs.Matching.{comes_after, is_fault, goes_on};
@@ -64,6 +67,16 @@ pub trait Calls {
             (objects_of store.now) work.now.caller (stage_of work.now) }
         ensures { needs.new ≡ Self.Meaning.meaning.need (world_of_store store.now)
             (objects_of store.now) work.now.caller (stage_of work.now) };
+
+    /// The user lock that the next piece of a call takes, if that is all that it needs, whatever the
+    /// store. None is always correct: the kernel then computes the needs of each waiting call.
+    #[inline(always)]
+    fn lock_taken(work: &Work) -> Option<u32>
+        ensures { IfSome result (λ u. (v : World) (s : Objects) (p : ℕ) →
+            Self.Meaning.meaning.need v s p (stage_of work.now) ≡ taking u ∷ []) }
+    {
+        None
+    }
 
     /// The point that the next piece of a call asks, with its arguments.
     fn asks<B: Policy>(work: &Work, store: &Store<B>) -> Option<Point>
@@ -154,6 +167,14 @@ impl Calls for Plain {
 
     fn need<B: Policy>(work: &Work, store: &Store<B>, needs: &mut Needs) {
         need(work, store, needs);
+    }
+
+    #[inline(always)]
+    fn lock_taken(work: &Work) -> Option<u32> {
+        match work.call {
+            BareCall::TakeLock(u) => Some(u),
+            _ => None,
+        }
     }
 
     fn asks<B: Policy>(work: &Work, store: &Store<B>) -> Option<Point> {

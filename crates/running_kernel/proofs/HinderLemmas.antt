@@ -131,6 +131,13 @@ needs_there m x p call some =
     graft_needs_are m x p f.0 f.1 (some_levels_there p x.store.ram (held x.locks)
     (chain_of x p).levels (chain_of x p).undo (objects_of x.store).things some)
 
+-- the user locks of a call in no graft are its process's
+pub own_user : {C B M : Type 0} {P : _} (x : Running C B M P) (p : ℕ) → length (chain_of x p).levels ≡ 0 →
+    lock_user p (placed_levels (placed_of x) p) ≡ p
+own_user x p none =
+    ap (λ ls. lock_user p (levels_with (objects_of x.store).things ls)) (no_levels p x.store.ram (held x.locks)
+    (chain_of x p).levels (chain_of x p).undo (objects_of x.store).things none)
+
 -- ---- what hinders
 
 pub piece_hindered : {C B M : Type 0} {P : _} (m : Meaning) (x : Running C B M P) (p : ℕ) (f : InFlight) →

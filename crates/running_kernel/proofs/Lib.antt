@@ -4,6 +4,7 @@ pub mod StartLemmas
 pub mod HinderLemmas
 pub mod FreeLemmas
 pub mod PlainLemmas
+pub mod StillLemmas
 pub mod QueryLemmas
 pub mod ShownLemmas
 pub mod OpeningLemmas

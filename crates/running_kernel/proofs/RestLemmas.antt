@@ -4,17 +4,20 @@ use Rattle.std.proofs.Common.{None, length, take, drop, get_or, set, refl, ap, s
 use Rattle.std.proofs.Common.{IfSome, IfNone, arith}
 use Rattle.std.proofs.lemmas.Bool.Decides.{nat_tests}
 use Rattle.std.proofs.Math.ListN.{drop_of_length-le}
-use Rattle.std.proofs.lemmas.List.{drop-set, drop_more, get_or-take, length-take, take-set, take-take}
+use Rattle.std.proofs.lemmas.List.{drop-set, drop_more, get_or-take, length-take, set-get_or, take-set}
+use Rattle.std.proofs.lemmas.List.{take-take}
+use Rattle.std.specs.Prelude.{is_some, option_map}
 use Rattle.kernel_model.specs.Meaning.{Meaning}
 use Rattle.kernel_model.specs.Kernel.{Blocker}
 use Rattle.kernel_model.specs.Settle.{entry_with}
 use Rattle.placed_laws.specs.Placed.{Placed, placed_blocker}
 use Rattle.placed_laws.specs.PlacedSteps.{placed_first_free}
 use Rattle.running_kernel.specs.declared.order.Waiting.{Waiting}
-use Rattle.running_kernel.specs.Orders.{entry_of, order_of, are_processes, counts_within, numbers_of, are_once, joined}
+use Rattle.running_kernel.specs.Orders.{blocker_of, entry_of, order_of, are_processes}
+use Rattle.running_kernel.specs.Orders.{counts_within, numbers_of, are_once, joined}
 use Rattle.running_kernel.specs.declared.running.Running.{Running}
-use Rattle.running_kernel.specs.Views.{IsRunning}
-use Rattle.running_kernel.specs.Rests.{AreRested, AreRestedFrom}
+use Rattle.running_kernel.specs.Views.{placed_of, IsRunning}
+use Rattle.running_kernel.specs.Rests.{AreRested, AreRestedFrom, GoesFrom, KeepsBlocker}
 
 -- an entry that may stand at a place
 abbrev pub some_entry : Waiting
@@ -75,6 +78,40 @@ rested_here m x ws mid new i w lt h is value process count =
     shorter xs ys k e =
         sym (take-take k (k + 1) ys (omega arith)) ∙ ap (take k) e
         ∙ take-take k (k + 1) xs (omega arith)
+
+-- an entry that keeps its blocker is passed
+pub goes_past : {C B M : Type 0} {P : _} (m : Meaning) (i : ℕ) (x y : Running C B M P) (r : Option ℕ) →
+    i < length x.order → KeepsBlocker m (placed_of x) (get_or x.order i some_entry)
+    → GoesFrom m (i + 1) x y r → GoesFrom m i x y r
+goes_past m i x y r lt kept h =
+    let b = some_of (option_map blocker_of (get_or x.order i some_entry).blocker) kept.some in
+    record {
+      next = h.next ∙ sym (first_later m (placed_of x) x.order i b.0 lt (kept.blocker ∙ b.1));
+      same = h.same;
+      kept = h.kept;
+      rested = by_result r h.rested;
+    }
+  where
+    some_of : (o : Option Blocker) → is_some o ≡ true → (b : Blocker) × (o ≡ Some b)
+    some_of None some = absurd cc
+    some_of (Some b) some = (b, refl)
+
+    by_result : (r : Option ℕ) → IfNone r (AreRestedFrom m (placed_of x) (i + 1) x.order y.order) →
+        IfNone r (AreRestedFrom m (placed_of x) i x.order y.order)
+    by_result (Some p) from = from
+    by_result None from =
+        let v = get_or x.order i some_entry in
+        let w = get_or y.order i some_entry in
+        let same : w ≡ v =
+        sym (get_or-take (i + 1) y.order i some_entry (omega arith))
+        ∙ ap (λ (vs : List Waiting). get_or vs i some_entry) from.before
+        ∙ get_or-take (i + 1) x.order i some_entry (omega arith) in
+        rested_here m (placed_of x) x.order y.order y.order i w lt from
+        (sym (set-get_or y.order i some_entry))
+        (ap entry_of same
+        ∙ sym (ap (entry_with (entry_of v)) kept.blocker ∙ kept.stays)
+        ∙ sym (ap (λ (z : Waiting). entry_with (entry_of z) (placed_blocker m (placed_of x) v.process)) same))
+        refl (omega arith)
 
 -- ---- the whole order
 

@@ -1,5 +1,5 @@
 -- What hinders a step, as the code says it.
-use Rattle.std.specs.Prelude.{◌≡◌, ℕ, cond, List, Option, None, option_map}
+use Rattle.std.specs.Prelude.{◌≡◌, ℕ, ◌<◌, cond, List, [], ◌∷◌, Option, None, option_map}
 use Rattle.kernel_data.specs.declared.Need.{Need}
 use Rattle.kernel_model.specs.GraftStep.{lock_user}
 use Rattle.kernel_model.specs.Meaning.{Meaning}
@@ -10,7 +10,9 @@ use Rattle.placed_laws.specs.Placed.{Placed, placed_holds, placed_levels, placed
 use Rattle.running_kernel.specs.declared.blocking.Hindrance.{Hindrance}
 use Rattle.running_kernel.specs.declared.running.InFlight.{InFlight}
 use Rattle.running_kernel.specs.declared.running.Flight.{Flight}
-use Rattle.running_kernel.specs.Views.{flight_of}
+use Rattle.running_kernel.specs.declared.running.Running.{Running}
+use Rattle.call_pieces.specs.Taking.{taking}
+use Rattle.running_kernel.specs.Views.{flight_of, placed_of}
 
 -- a hindrance
 abbrev pub hindrance_of : Hindrance → table.Hindrance
@@ -38,3 +40,11 @@ abbrev pub IsStepHindrance : Meaning → Placed → ℕ → Option Hindrance →
 IsStepHindrance m x p found =
     IsFirstHindrance (placed_holds x) x.objects p (lock_user p (placed_levels x p))
     (placed_needs m x p) found
+
+-- The next step of process p's call needs user lock u and nothing else, and user locks of p don't
+-- hinder it.
+pub record TakesAlone {C B M : Type 0} {P : _} (m : Meaning) (x : Running C B M P) (p u : ℕ) :
+    Type 0 where
+  pub small : u < 16
+  pub user : lock_user p (placed_levels (placed_of x) p) ≡ p
+  pub needs : placed_needs m (placed_of x) p ≡ taking u ∷ []

@@ -1,12 +1,19 @@
 -- What one look at the order of waiting finds and leaves.
-use Rattle.std.specs.Prelude.{◌≡◌, ℕ, true, List, Option, IfSome, IfNone, drop, take}
+use Rattle.std.specs.Prelude.{◌≡◌, ℕ, true, List, Option, is_some, option_map, IfSome, IfNone, drop, take}
 use Rattle.kernel_model.specs.Meaning.{Meaning}
-use Rattle.placed_laws.specs.Placed.{Placed}
+use Rattle.kernel_model.specs.Settle.{entry_with}
+use Rattle.placed_laws.specs.Placed.{Placed, placed_blocker}
 use Rattle.placed_laws.specs.PlacedSteps.{placed_first_free, placed_rested_order}
 use Rattle.running_kernel.specs.declared.order.Waiting.{Waiting}
 use Rattle.running_kernel.specs.declared.running.Running.{Running}
-use Rattle.running_kernel.specs.Orders.{order_of, are_processes, counts_within, numbers_of}
+use Rattle.running_kernel.specs.Orders.{blocker_of, entry_of, order_of, are_processes, counts_within, numbers_of}
 use Rattle.running_kernel.specs.Views.{placed_of}
+
+-- The call of an entry is blocked, by what the entry keeps: it stays as it is at rest.
+pub record KeepsBlocker (m : Meaning) (x : Placed) (w : Waiting) : Type 0 where
+  pub some : is_some (option_map blocker_of w.blocker) ≡ true
+  pub blocker : placed_blocker m x w.process ≡ option_map blocker_of w.blocker
+  pub stays : entry_with (entry_of w) (option_map blocker_of w.blocker) ≡ entry_of w
 
 -- these entries, each with its blocker
 pub record AreRested (m : Meaning) (x : Placed) (old new : List Waiting) : Type 0 where

@@ -23,9 +23,11 @@ ghost use Rattle.call_pieces.specs.Stores.{world_of_store, queue_of, objects_of}
 ghost use Rattle.lock_table.specs.Masks.{held};
 ghost use Rattle.running_kernel.specs.Idle.{IsIdle, IsPlain, IsFreeOfUsers};
 ghost use Rattle.running_kernel.specs.Hindered.{hindrance_of, blocking_by, IsFirstHindrance, IsStepHindrance};
+ghost use Rattle.running_kernel.specs.Hindered.{TakesAlone};
+ghost use Rattle.running_kernel.specs.Rests.{KeepsBlocker};
 
 use crate::flights::{flight, number_of};
-use crate::order::Blocking;
+use crate::order::{Blocking, Waiting};
 use crate::running::{Flight, Running};
 use call_pieces::{Calls, Needs, Policy, Store, Work};
 use graft_levels::{Chain, Images};
@@ -315,6 +317,57 @@ impl<C: Calls, B: Policy> Running<C, B> {
             return !is_lock(call.work.call);
         }
         false
+    }
+
+    /// Whether process p has a call, in no graft, whose next piece takes user lock u and needs nothing
+    /// else.
+    fn takes_alone(&self, p: u8, u: u8) -> bool
+        requires { IsSoundFor C.Meaning.meaning self.now p }
+        ensures { result ≡ true → TakesAlone C.Meaning.meaning self.now p u }
+    {
+        let flight = flight(&self.calls, p);
+        let Some(call) = flight.call.get() else {
+            return false;
+        };
+        if flight.chain.levels.count() > 0 {
+            return false;
+        }
+        match C::lock_taken(&call.work) {
+            Some(taken) => taken == u32::from(u),
+            None => false,
+        }
+    }
+
+    /// Whether a quick test shows that the call of an entry is blocked as the entry says: nothing is
+    /// held, and the call takes a user lock that the same other process still has. If it doesn't show
+    /// that, the call may be blocked so as well.
+    #[inline(always)]
+    pub(crate) fn waits_still(&self, waiting: Waiting) -> bool
+        requires { IsSoundFor C.Meaning.meaning self.now waiting.process }
+        ensures { result ≡ true → KeepsBlocker C.Meaning.meaning (placed_of self.now) waiting }
+    {
+        let Some(kept) = waiting.blocker else {
+            return false;
+        };
+        let Object::Lock(u) = kept.object else {
+            return false;
+        };
+        if kept.call.is_some() {
+            return false;
+        }
+        if kept.holder == waiting.process {
+            return false;
+        }
+        if !self.locks.is_free() {
+            return false;
+        }
+        if !self.takes_alone(waiting.process, u) {
+            return false;
+        }
+        match self.store.holder(u) {
+            Some(holder) => holder == kept.holder,
+            None => false,
+        }
     }
 
     /// What hinders the next instruction of process p's call, which is in a graft and needs this.

@@ -117,7 +117,7 @@ pub(crate) fn first_over(patience: &[u32; 8], entries: &[Waiting]) -> Option<Wai
 
 impl<C: Calls, B: Policy> Running<C, B> {
     /// The first of the entries from a place on that nothing blocks. Where all are blocked, each is
-    /// told its blocker, once all were found.
+    /// told its blocker, once all were found; one that keeps its blocker by a quick test isn't written.
     #[inline(never)]
     fn next_from(&mut self, i: usize) -> Option<u8>
         requires sound { IsSound C.Meaning.meaning self.old }
@@ -128,7 +128,11 @@ impl<C: Calls, B: Policy> Running<C, B> {
         if i == entries.len() {
             return None;
         }
-        let process = entries[i].process;
+        let waiting = entries[i];
+        if self.waits_still(waiting) {
+            return self.next_from(i + 1);
+        }
+        let process = waiting.process;
         let Some(blocker) = self.blocker(process) else {
             return Some(process);
         };

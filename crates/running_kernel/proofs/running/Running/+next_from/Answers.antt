@@ -3,16 +3,29 @@ use Rattle.kernel_model.specs.Settle.{entry_with}
 use Rattle.placed_laws.specs.Placed.{placed_blocker}
 use Rattle.running_kernel.specs.declared.order.Waiting.{Waiting}
 use Rattle.running_kernel.specs.Orders.{blocker_of, entry_of}
+use Rattle.running_kernel.specs.Rests.{KeepsBlocker}
 use Rattle.running_kernel.specs.Views.{placed_of}
-use Rattle.running_kernel.proofs.RestLemmas.{some_entry, first_later, reordered, rested_here}
+use Rattle.running_kernel.proofs.RestLemmas.{some_entry, first_later, goes_past, reordered, rested_here}
 use Rattle.running_kernel.proofs.running.Running.+next_from.Goals as goal
+
+pub returns-then-waits_still : goal.returns-then-waits_still
+returns-then-waits_still g t c =
+    let m = g.C.Meaning.Rules.meaning in
+    let x = c.args.self.now in
+    let ws = x.order in
+    let i = c.args.i in
+    let size : length c.entries-entries.result.now ≡ length ws = ap length c.entries-entries.ensures.value in
+    let lt : i < length ws = omega (arith, c.if-i-entries.false, c.requires.place, size) in
+    goes_past m i x c.next_from.new.self c.next_from.result lt
+    (subst (λ (vs : List Waiting). KeepsBlocker m (placed_of x) (get_or vs i some_entry))
+    c.entries-entries.ensures.value (c.waits_still.ensures c.if-waits_still.true)) c.next_from.ensures
 
 pub returns : goal.returns
 returns g t c =
     let m = g.C.Meaning.Rules.meaning in
     let x = placed_of c.args.self.now in
     let ws = c.args.self.now.order in
-    let mid = c.next_from.new.self.order in
+    let mid = c.next_from-2.new.self.order in
     let i = c.args.i in
     let size : length c.entries-entries.result.now ≡ length ws = ap length c.entries-entries.ensures.value in
     let lt : i < length ws = omega (arith, c.if-i-entries.false, c.requires.place, size) in
@@ -31,13 +44,13 @@ returns g t c =
     ap (λ (vs : List Waiting). get_or vs i some_entry) c.entries.ensures.value in
     record {
       next =
-          sym c.in_default-next_from.is ∙ c.next_from.ensures.next
+          sym c.in_default-next_from.is ∙ c.next_from-2.ensures.next
           ∙ sym (first_later m x ws i (blocker_of c.in-Some.blocker) lt blocked);
-      same = reordered c.args.self.now c.next_from.new.self c.put.new.self c.next_from.ensures.same;
+      same = reordered c.args.self.now c.next_from-2.new.self c.put.new.self c.next_from-2.ensures.same;
       kept = tt;
       rested =
           rested_here m x ws mid c.put.new.self i c.with_blocker.result lt
-          (rw c.in_default-next_from.is at c.next_from.ensures.rested) c.put.ensures
+          (rw c.in_default-next_from.is at c.next_from-2.ensures.rested) c.put.ensures
           (told ∙ ap (λ (w : Waiting). entry_with (entry_of w)
           (Some (blocker_of c.in-Some.blocker))) same_entry
           ∙ ap (entry_with (entry_of (get_or mid i some_entry))) (sym blocked))
