@@ -1,12 +1,12 @@
 -- Processes in turn, and what their calls hold.
-use Rattle.std.proofs.Common.{◌≡◌, ◌≢◌, ℕ, zero, suc, ◌<◌, ◌≤◌, ◌+◌, ◌==◌, ◌&&◌, not, Bool, true, false, cond, List, [], ◌∷◌, map, drop, find}
+use Rattle.std.proofs.Common.{◌≡◌, ℕ, zero, suc, ◌<◌, ◌≤◌, ◌+◌, Bool, true, false, cond, List, [], ◌∷◌, map, drop, find}
 use Rattle.std.proofs.Common.{Option, Some, None, refl, ap, ◌∙◌, arith}
-use Rattle.std.proofs.lemmas.Bool.Decides.{nat_tests}
 use Rattle.kernel_model.specs.World.{processes}
-use Rattle.kernel_model.specs.Kernel.{Kernel, Call}
+use Rattle.kernel_model.specs.History.{Mark, Trace, replay}
+use Rattle.kernel_model.specs.Kernel.{Kernel, Call, has_level}
 use Rattle.kernel_model.specs.AllCalls.{all_calls}
 use Rattle.kernel_model.specs.Levels.{Level, touched_at}
-use Rattle.kernel_model.specs.Blocking.{locks_from, trace_of}
+use Rattle.kernel_model.specs.Blocking.{config_in, levels_in, levels_of, locks_from, trace_of}
 use Rattle.kernel_model.specs.declared.Object.{Object}
 use Rattle.kernel_model.specs.declared.Mode.{Mode}
 use Rattle.kernel_model.specs.Locks.{outermost_holding}
@@ -71,13 +71,22 @@ pub leads_is : (k : Kernel) (p : ℕ) (c : Option Call) → leads k.world k.imag
 leads_is k p None = refl
 leads_is k p (Some c) = refl
 
--- of another process it counts
-pub other : (q p : ℕ) (b : Bool) → q ≢ p → b ≡ (not (q == p) && b)
-other q p b is = go (q == p) refl
+-- where the history of a call leads, by its marks
+abbrev led : Kernel → ℕ → Call → Option (List Mark) → Option Trace
+led k q c ks =
+    elim ks [ None ↦ None | Some ms ↦ replay all_calls k.world k.images k.objects q c.stage ms ]
+
+-- a call without a history has no level
+pub level_less : (k : Kernel) (q : ℕ) → has_level (k.call q) ≡ false → levels_of all_calls k q ≡ []
+level_less k q bare = ap (λ (t : Option Trace). levels_in (config_in t)) (nowhere (k.call q) bare)
   where
-    go : (e : Bool) → (q == p) ≡ e → b ≡ (not (q == p) && b)
-    go true h = absurd (is (grind (arith, nat_tests, h)))
-    go false h = rw h refl
+    nowhere : (c : Option Call) → has_level c ≡ false → trace_of all_calls k q c ≡ None
+    nowhere None h = refl
+    nowhere (Some c) h = by c.marks refl
+      where
+        by : (ks : Option (List Mark)) → c.marks ≡ ks → trace_of all_calls k q (Some c) ≡ None
+        by None e = ap (led k q c) e
+        by (Some ks) e = absurd (grind (arith, h, e))
 
 -- no process above 15 holds anything
 pub held_by_none : (f : ℕ → List Level) (q : ℕ) (o : Object) (mode : Mode) → 16 ≤ q →

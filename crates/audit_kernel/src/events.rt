@@ -11,7 +11,7 @@ ghost use Rattle.kernel_model.specs.declared.Event.TheVariants.{Step, Sys};
 ghost use Rattle.audit_needs.specs.Stages.{stage_of};
 ghost use Rattle.audit_kernel.specs.Runs.{kernel_of, run_of, AreKept};
 
-use crate::flights::put;
+use crate::flights::{has_history, put};
 use crate::order::is_in;
 use crate::{Flight, Run};
 use audit_needs::Stage;
@@ -35,10 +35,7 @@ impl Run {
     pub(crate) fn has_level(&self, p: u8) -> bool
         ensures { result ≡ kernel.has_level ((kernel_of self.now).call p) }
     {
-        match self.flights.get(usize::from(p)) {
-            Some(Some(flight)) => flight.graft.is_some(),
-            _ => false,
-        }
+        has_history(&self.flights, p)
     }
 
     /// The note of a call that waits.

@@ -1,8 +1,9 @@
 //! Calls in flight, and where their histories lead.
 
-ghost use Rattle.std.specs.Prelude.{◌≡◌, ◌==◌, ℕ, false, Option, Some, None};
+ghost use Rattle.std.specs.Prelude.{◌≡◌, ◌==◌, ℕ, [], false, Option, Some, None};
 ghost use Rattle.std.specs.Prelude.{IfOk, OnOk, cond, map, option_map, slice_index_or, length};
 ghost use Rattle.kernel_model.specs.AllCalls.{all_calls};
+ghost use Rattle.kernel_model.specs.Kernel as model;
 ghost use Rattle.graft_loader.specs.Slots.{table_of};
 ghost use Rattle.audit_state.specs.Worlds.{world_of};
 ghost use Rattle.audit_needs.specs.Stages.{stage_of};
@@ -19,7 +20,11 @@ use audit_pieces::Store;
 use audit_replay::{Mark, Trace, replay};
 use audit_state::policies::{byte_of, word_of};
 use kernel_model::{Need, NoMemory, Point};
+use std::alloc::Global;
 use std::mem::replace;
+
+/// How many objects most pieces need at most.
+const USUAL_NEEDS: usize = 8;
 
 /// The call of a process is taken out, if one is in flight.
 pub(crate) fn take(flights: &mut Vec<Option<Flight>>, p: u8) -> Option<Flight>
@@ -55,6 +60,16 @@ pub(crate) fn put(
     }
 }
 
+/// No needs yet, with room for those of most pieces.
+fn no_needs(alloc: Global) -> Result<Vec<Need>, NoMemory>
+    ensures { IfOk result (λ needs. needs.items ≡ []) }
+{
+    match Vec::with_capacity(alloc, USUAL_NEEDS) {
+        Ok(needs) => Ok(needs),
+        Err(_) => Err(NoMemory),
+    }
+}
+
 /// The objects that the next piece of a call needs.
 #[tactic(auto, unfolding(audit_pieces::specs::Stores::objects_of))]
 pub(crate) fn base_of(
@@ -66,7 +81,7 @@ pub(crate) fn base_of(
     ensures { IfOk result (λ base. base.items ≡ all_calls.need (world_of setting.now.world)
         (objects_of store.now) p (stage_of stage.now)) }
 {
-    let mut base = Vec::new(setting.alloc);
+    let mut base = no_needs(setting.alloc)?;
     let scene = Scene {
         alloc: setting.alloc,
         world: &setting.world,
@@ -197,8 +212,19 @@ fn again(setting: &Setting, store: &Store, p: u8, flight: Flight) -> Result<Flig
     }
 }
 
-/// The history of the call of a process is run again, if it has one.
-fn run_again(
+/// Whether the call of a process has a history.
+pub(crate) fn has_history(flights: &[Option<Flight>], p: u8) -> bool
+    ensures { result ≡ model.has_level (call_at flights.now p) }
+{
+    match flights.get(usize::from(p)) {
+        Some(Some(flight)) => flight.graft.is_some(),
+        _ => false,
+    }
+}
+
+/// The call of a process is taken out of its place and put back with its history run again, if it
+/// has one.
+fn replace_call(
     setting: &Setting,
     store: &Store,
     flights: &mut Vec<Option<Flight>>,
@@ -219,6 +245,30 @@ fn run_again(
             put(flights, p, Some(flight))?;
             Ok(())
         }
+    }
+}
+
+/// The history of the call of a process is run again, if it has one. A call without one stays in
+/// its place.
+fn run_again(
+    setting: &Setting,
+    store: &Store,
+    flights: &mut Vec<Option<Flight>>,
+    p: u8,
+) -> Result<(), NoMemory>
+    ensures call { OnOk result ((q : ℕ) →
+        call_at flights.new.items q ≡ call_at flights.old.items q) }
+    ensures kept { OnOk result (IsKept setting.now store.now p
+        (slice_index_or flights.new.items p None)) }
+    ensures others { OnOk result ((q : ℕ) → (q == p) ≡ false →
+        slice_index_or flights.new.items q None ≡ slice_index_or flights.old.items q None) }
+    ensures size { OnOk result (length flights.new.items ≡ length flights.old.items) }
+{
+    if has_history(flights, p) {
+        replace_call(setting, store, flights, p)?;
+        Ok(())
+    } else {
+        Ok(())
     }
 }
 

@@ -84,6 +84,17 @@ pub(crate) fn outermost_holding(levels: &[Level], object: Object, mode: Mode) ->
     ensures { (bytes : ℕ → List ℕ) → result ≡ locks.outermost_holding object mode
         (calls.touched_at (levels_of bytes levels.now)) }
 {
+    match levels {
+        [] => None,
+        [_, ..] => outermost_of(levels, object, mode),
+    }
+}
+
+/// The same where it looks at each level.
+fn outermost_of(levels: &[Level], object: Object, mode: Mode) -> Option<u8>
+    ensures { (bytes : ℕ → List ℕ) → result ≡ locks.outermost_holding object mode
+        (calls.touched_at (levels_of bytes levels.now)) }
+{
     if conflicts_at(levels, 0, object, mode) {
         Some(0)
     } else if conflicts_at(levels, 1, object, mode) {
@@ -154,6 +165,21 @@ impl Run {
         levels_in(self.trace(p))
     }
 
+    /// Whether the call of a process holds an object in conflict with a mode. One without a level
+    /// holds nothing.
+    fn is_in_conflict(&self, q: u8, object: Object, mode: Mode) -> bool
+        requires kept { AreKept self.now }
+        requires place { q < 16 }
+        ensures { result ≡ locks.hinders object mode
+            (blocking.holds all_calls (kernel_of self.now) q) }
+    {
+        if self.has_level(q) {
+            hinders(self.levels(q), object, mode)
+        } else {
+            false
+        }
+    }
+
     /// Whether a process is another than p, and its call holds an object in conflict with a mode.
     fn is_holder(&self, p: u8, q: u8, object: Object, mode: Mode) -> bool
         requires kept { AreKept self.now }
@@ -161,8 +187,11 @@ impl Run {
         ensures { result ≡ (not (q == p) && locks.hinders object mode
             (blocking.holds all_calls (kernel_of self.now) q)) }
     {
-        let held = hinders(self.levels(q), object, mode);
-        q != p && held
+        if q == p {
+            false
+        } else {
+            self.is_in_conflict(q, object, mode)
+        }
     }
 
     /// The lowest process other than p one of whose levels holds an object in conflict with a mode.

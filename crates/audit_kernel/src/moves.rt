@@ -1,6 +1,6 @@
 //! Steps of calls, until every call in the order is blocked.
 
-ghost use Rattle.std.specs.Prelude.{◌≡◌, ◌++◌, IfOk, OnOk, map};
+ghost use Rattle.std.specs.Prelude.{◌≡◌, ◌++◌, ℕ, Some, None, IfOk, OnOk, map};
 ghost use Rattle.kernel_model.specs.AllCalls.{all_calls};
 ghost use Rattle.kernel_model.specs.Blocking as blocking;
 ghost use Rattle.kernel_model.specs.Kernel as model;
@@ -69,31 +69,6 @@ impl Run {
         Ok(())
     }
 
-    /// The first of these entries that nothing blocks.
-    fn first_of(&self, entries: &[Waiter]) -> Result<Option<u8>, NoMemory>
-        requires kept { AreKept self.now }
-        ensures { IfOk result (λ p. p ≡ rules.first_free_in all_calls (kernel_of self.now)
-            (blocking.holds all_calls (kernel_of self.now)) (map waiter_of entries.now)) }
-    {
-        match entries {
-            [] => Ok(None),
-            [e, rest @ ..] => match self.blocker(e.process)? {
-                None => Ok(Some(e.process)),
-                Some(_) => self.first_of(rest),
-            },
-        }
-    }
-
-    /// The first in the order that nothing blocks.
-    fn first_free(&self) -> Result<Option<u8>, NoMemory>
-        requires kept { AreKept self.now }
-        ensures { IfOk result (λ p. p ≡ rules.first_free all_calls (kernel_of self.now)
-            (map waiter_of self.now.order.items)) }
-    {
-        let free = self.first_of(self.order.as_slice())?;
-        Ok(free)
-    }
-
     /// These entries with their blockers come behind others.
     fn rest_all(&self, entries: &[Waiter], order: &mut Vec<Waiter>) -> Result<(), NoMemory>
         requires kept { AreKept self.now }
@@ -124,6 +99,51 @@ impl Run {
         Ok(())
     }
 
+    /// The first of these entries that nothing blocks. Where each is blocked, the entries with their
+    /// blockers come behind others.
+    fn first_of(&self, entries: &[Waiter], order: &mut Vec<Waiter>) -> Result<Option<u8>, NoMemory>
+        requires kept { AreKept self.now }
+        ensures free { IfOk result (λ p. p ≡ rules.first_free_in all_calls (kernel_of self.now)
+            (blocking.holds all_calls (kernel_of self.now)) (map waiter_of entries.now)) }
+        ensures rested { IfOk result (λ p. p ≡ None →
+            map waiter_of order.new.items ≡ map waiter_of order.old.items
+            ++ rules.order_in all_calls (kernel_of self.now)
+            (blocking.holds all_calls (kernel_of self.now)) (map waiter_of entries.now)) }
+    {
+        match entries {
+            [] => Ok(None),
+            [e, rest @ ..] => match self.blocker(e.process)? {
+                None => Ok(Some(e.process)),
+                Some(b) => {
+                    put_last(order, with_blocker(*e, Some(b)))?;
+                    let free = self.first_of(rest, order)?;
+                    Ok(free)
+                }
+            },
+        }
+    }
+
+    /// The first in the order that nothing blocks. Where each is blocked, each keeps its blocker.
+    fn first_free(&mut self) -> Result<Option<u8>, NoMemory>
+        requires kept { AreKept self.old }
+        ensures free { IfOk result (λ p. p ≡ rules.first_free all_calls (kernel_of self.old)
+            (map waiter_of self.old.order.items)) }
+        ensures rested { IfOk result (λ p. p ≡ None →
+            run_of self.new ≡ rules.rested all_calls (run_of self.old)) }
+        ensures same { IfOk result (λ p. (q : ℕ) → p ≡ Some q →
+            run_of self.new ≡ run_of self.old) }
+        ensures kept { IfOk result (λ p. AreKept self.new) }
+    {
+        let mut order = Vec::new(self.setting.alloc);
+        match self.first_of(self.order.as_slice(), &mut order)? {
+            None => {
+                self.order = order;
+                Ok(None)
+            }
+            Some(p) => Ok(Some(p)),
+        }
+    }
+
     /// At most so many steps, each of the first call that nothing blocks, and rest.
     fn settle_by(&mut self, most: u32) -> Result<(), NoMemory>
         requires kept { AreKept self.old }
@@ -133,7 +153,7 @@ impl Run {
     {
         for turn in 0..most {
             match self.first_free()? {
-                None => return self.rest(),
+                None => return Ok(()),
                 Some(p) => self.step(p)?,
             }
         }
