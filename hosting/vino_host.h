@@ -6,13 +6,13 @@
  * words, nothing else; and a call that misbehaves is dropped: segment and table are then as they were
  * before the call, to the bit.
  *
- * Link libvino_host_c.a and the kit's liblibc_c.a; docs/HOSTING.md shows how, and says which clause
- * carries which promise.
+ * Link libvino_host.a, of the folder release/ or as release/install puts it; docs/HOSTING.md shows how,
+ * and says which clause carries which promise.
  *
  * Memory. All of it is the caller's: the plug-ins' bytes, the structs below, the segment and the table.
  *   They may be copied as bytes; no field is a pointer. Only vino_load takes memory (malloc), and it gives
  *   back what it took. No function keeps a pointer from one call to the next.
- * Pointers. No pointer may be null, also where a length is 0, and none may overlap another that is
+ * Pointers. No pointer may be null, even if a length is 0, and none may overlap another that is
  *   written. Lengths count elements. These are the only rules that are not tested.
  * Contents. What stands in a plug-in's bytes or in a struct is never trusted: whatever it is, a call ends,
  *   stays in its segment, table and structs, and answers a code. But a plug-in or a call that was changed
@@ -32,7 +32,7 @@
 extern "C" {
 #endif
 
-#define VINO_HOST_VERSION "0.9.0"
+#define VINO_HOST_VERSION "1.0.0"
 
 /* Bytes of a segment, and the most of what else there is. */
 enum {
@@ -68,9 +68,9 @@ enum { VINO_LOADED = 0, VINO_NO_MEMORY = 14, VINO_NO_ROOM = 15, VINO_CHANGED = 1
 
 /* A loaded plug-in is so many bytes of the caller's, at any place: a mark of 32 bytes, which is the SHA-256
  * of what follows; three words, the lowest byte first: how many instructions, how many data bytes, and 1
- * where its image asks the host to keep its segment from one completed call to the next (else 0); eight
+ * if its image asks the host to keep its segment from one completed call to the next (else 0); eight
  * bytes for each instruction, as docs/FORMATS.md has them; the data. Begin with any bytes; vino_load writes
- * them. As many bytes as the image has are enough. Where more are there, the others are left alone. */
+ * them. As many bytes as the image has are enough. If there are more, the others are left alone. */
 #define VINO_PLUGIN_BYTES(instructions, data) (44 + 8 * (size_t)(instructions) + (size_t)(data))
 
 /* Whether a loaded plug-in asks that its segment be kept. */
@@ -87,7 +87,7 @@ typedef struct {
  * (r0 = k, r1 = the new value); both give what it was in r0. A word that a call changed belongs to it
  * until it ends: `owner` is its number, else 0. `readers` says how many calls read it that haven't
  * ended; until then no other call may change it. A call that is refused a word so ends as VINO_BUSY.
- * The host begins with owner and readers 0 everywhere, and changes only words where both are 0. */
+ * The host begins with owner and readers 0 everywhere, and changes only words of which both are 0. */
 typedef struct {
     uint32_t value;
     uint32_t owner;
@@ -117,7 +117,7 @@ typedef struct {
     uint32_t number, point, fed, limit, left, id;
     vino_machine machine;
     vino_log log;
-    uint8_t segment[VINO_SEGMENT];
+    uint8_t segment[VINO_SEGMENT]; /* while it waits: the caller's segment from before the call */
 } vino_call;
 
 /* What a call is asked for. */
@@ -134,18 +134,18 @@ typedef struct {
     uint32_t kind;   /* VINO_RETURNED .. VINO_MISUSED */
     uint32_t detail; /* as said at the kind; else 0 */
     uint32_t steps;  /* how many instructions the call has taken since its beginning */
-    uint32_t given;  /* where it returned: how many bytes it gives, from segment[VINO_BYTES_AT] on */
-    uint32_t r0, r1, r2, r3; /* where it returned or waits; else 0 */
+    uint32_t given;  /* if it returned: how many bytes it gives, from segment[VINO_BYTES_AT] on */
+    uint32_t r0, r1, r2, r3; /* if it returned or waits; else 0 */
 } vino_answer;
 
 /* Loads a sealed image of either version, its seal checked and its code verified: 0, or the number of
- * its refusal L1 to L13, or VINO_NO_MEMORY, or VINO_NO_ROOM where it needs more than plugin_length bytes.
+ * its refusal L1 to L13, or VINO_NO_MEMORY, or VINO_NO_ROOM if it needs more than plugin_length bytes.
  * `place` is then the number of the refused instruction (L6 to L10), or how many bytes the image needs
- * (VINO_NO_ROOM), else 0. Where it isn't 0 the plug-in's bytes stay as they were. */
+ * (VINO_NO_ROOM), else 0. If it doesn't return 0, the plug-in's bytes stay as they were. */
 uint32_t vino_load(const vino_keys *keys, const uint8_t *image, size_t image_length,
                    uint8_t *plugin, size_t plugin_length, uint32_t *place);
 
-/* Tells whether a plug-in's bytes are still what vino_load wrote: VINO_LOADED where the mark is the SHA-256
+/* Tells whether a plug-in's bytes are still what vino_load wrote: VINO_LOADED if the mark is the SHA-256
  * of the content, else VINO_CHANGED. It finds stray writes; whoever changes the mark too isn't found. Bytes
  * behind those that the image needs aren't looked at. No other function looks at the mark. */
 uint32_t vino_check(const uint8_t *plugin, size_t plugin_length);

@@ -13,6 +13,7 @@ static uint8_t image[16384];
 static size_t image_length;
 static const vino_keys keys = {.count = 1};
 static vino_request request = {.number = 1, .limit = 2000, .fresh = 1};
+static uint32_t word = 7; /* what the host answers */
 static uint32_t steps;
 
 static void read_image(const char *folder, const char *name) {
@@ -41,7 +42,7 @@ static void call_once(void) {
     static const uint8_t none[1];
     vino_answer answer;
     vino_begin(plugin, sizeof plugin, &call, &request, none, 0, segment, table, 16, &answer);
-    while (answer.kind == VINO_WAITING) vino_resume(plugin, sizeof plugin, &call, 0, 7, segment, table, 16, &answer);
+    while (answer.kind == VINO_WAITING) vino_resume(plugin, sizeof plugin, &call, 0, word, segment, table, 16, &answer);
     steps = answer.steps;
 }
 
@@ -85,6 +86,11 @@ int main(int count, char **words) {
     request.r1 = 0;
     measure("library: the same with a kept segment, dropped", call_once, 5000);
     request.fresh = 1;
+    read_image(words[1], "quotient");
+    word = 3;
+    measure("library: a call of the host, a division", call_once, 5000);
+    word = 0;
+    measure("library: a call of the host, dropped at the division", call_once, 5000);
     read_image(words[1], "divide");
     measure("library: a dropped call", call_once, 5000);
     read_image(words[1], "bad-endless");

@@ -44,12 +44,14 @@ one_more : (r : CodeRun) (counts : Bool) → (counted_access counts r).accesses 
 one_more r true = omega arith
 one_more r false = omega arith
 
-most_accesses : (code : List Instr) (n : ℕ) (r : CodeRun) → (raw_run code n r).accesses ≤ r.accesses + n
+most_accesses : (code : List Instr) (n : ℕ) (r : CodeRun) →
+    (raw_run code n r).accesses ≤ r.accesses + n
 most_accesses code zero r = omega arith
 most_accesses code (suc n) r = by_end (most_accesses code n (run_step masked_place code r)) r.ended
   where
     by_end : (raw_run code n (run_step masked_place code r)).accesses
-        ≤ (run_step masked_place code r).accesses + n → (o : Option Halt) → (elim o as (λ _. CodeRun) [
+        ≤ (run_step masked_place code r).accesses + n → (o : Option Halt) →
+        (elim o as (λ _. CodeRun) [
           | Some halt ↦ r
           | None ↦ run_by masked_place code n (run_step masked_place code r)
         ]).accesses ≤ r.accesses + suc n
@@ -85,7 +87,8 @@ registers_fit args h i = by_tests (i == 15) (nat_lt i 4)
 
 -- by how raw code ended
 by_halt : (request : Request) (fed : List ℕ) (raw : CodeRun) (f : Found) (end : End) → end ≢ Going →
-    ((h : Halt) → raw.ended ≡ Some h → IsFoundAsRaw request fed raw f) → (h : Option Halt) → raw.ended ≡ h →
+    ((h : Halt) → raw.ended ≡ Some h → IsFoundAsRaw request fed raw f) → (h : Option Halt) →
+    raw.ended ≡ h →
     end_by raw h ≡ Some end →
     IsFoundAsSaid request fed end f
 by_halt request fed raw f end goes as_raw None is says = absurd (goes cc)
@@ -140,8 +143,8 @@ loaded law keys i plugin boxed loads =
     ap (λ (x : Image). x.code) same
 
 pub written : SealedImagesLoad → BoxedCallsAreRaw → WrittenPluginsDoWhatTheySay
-written sealed law text image compiled p keys keep plugin request fed segment words table n end spells boxed loads size
-    has fits small ends goes most =
+written sealed law text image compiled p keys keep plugin request fed segment words table n end
+    spells boxed loads size has fits small ends goes most =
     let made : rewrite image.code ≡ Ok (code_of plugin) =
     compiled.is_boxed ∙ ap (λ (is : List Instr). Ok is)
     (loaded sealed keys (boxed_image keep image) plugin boxed loads) in

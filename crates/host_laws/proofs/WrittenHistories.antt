@@ -64,15 +64,17 @@ told_without [] i h = tt
 told_without (c ∷ cs) zero h = h.1
 told_without (c ∷ cs) (suc i) h = (h.0, told_without cs i h.1)
 
-told_at : (cs : List Waiting) (i : ℕ) (c : Waiting) → AllTold cs → slice_get cs i ≡ Some c → IsTold c.story
+told_at : (cs : List Waiting) (i : ℕ) (c : Waiting) → AllTold cs → slice_get cs i ≡ Some c →
+    IsTold c.story
 told_at [] i c h e = cc
-told_at (d ∷ cs) zero c h e = let same : d ≡ c = cc in subst (λ (x : Waiting). IsTold x.story) same h.0
+told_at (d ∷ cs) zero c h e =
+    let same : d ≡ c = cc in subst (λ (x : Waiting). IsTold x.story) same h.0
 told_at (d ∷ cs) (suc i) c h e = told_at cs i c h.1 e
 
 -- ---- a call stops
 
-stops_honest : (es : List Ending) (cs : List Waiting) (s : Story) (f : Found) → AllComplete es → AllTold cs →
-    IsTold s → IsHonest (after_stop es cs s f)
+stops_honest : (es : List Ending) (cs : List Waiting) (s : Story) (f : Found) → AllComplete es →
+    AllTold cs → IsTold s → IsHonest (after_stop es cs s f)
 stops_honest es cs s f complete told is = by_pause f.pause
   where
     more : List Ending
@@ -83,17 +85,22 @@ stops_honest es cs s f complete told is = by_pause f.pause
     by_kind false e = complete
 
     by_pause : (o : Option Pause) → IsHonest (elim o as (λ _. World) [
-      | Some p ↦ record { table = f.table; waiting = record { story = s; pause = p } ∷ cs; ended = es }
-      | None ↦ record { table = f.table; waiting = cs; ended = cond (f.answer.kind == RETURNED) more es }
+      | Some p ↦
+          record { table = f.table; waiting = record { story = s; pause = p } ∷ cs; ended = es }
+      | None ↦
+          record { table = f.table; waiting = cs; ended = cond (f.answer.kind == RETURNED) more es }
     ])
     by_pause (Some p) = record { waiting = (is, told); ended = complete }
     by_pause None = record { waiting = told; ended = by_kind (f.answer.kind == RETURNED) refl }
 
 -- a refused call leaves no trace
-refused_honest : (es : List Ending) (cs : List Waiting) (s : Story) (answer : Answer) (segment : ℕ → ℕ)
-    (table : List Word) → AllComplete es → AllTold cs → (answer.kind == RETURNED) ≡ false →
-    IsHonest (after_stop es cs s (record { answer = answer; segment = segment; table = table; pause = None }))
-refused_honest es cs s answer segment table complete told not = by_kind (answer.kind == RETURNED) not
+refused_honest : (es : List Ending) (cs : List Waiting) (s : Story) (answer : Answer)
+    (segment : ℕ → ℕ) (table : List Word) → AllComplete es → AllTold cs →
+    (answer.kind == RETURNED) ≡ false →
+    IsHonest (after_stop es cs s
+    (record { answer = answer; segment = segment; table = table; pause = None }))
+refused_honest es cs s answer segment table complete told not =
+    by_kind (answer.kind == RETURNED) not
   where
     by_kind : (t : Bool) → t ≡ false → IsHonest (record {
       table = table;
@@ -105,8 +112,8 @@ refused_honest es cs s answer segment table complete told not = by_kind (answer.
 
 -- ---- events
 
-answer_honest : (w : World) (i : ℕ) (c : Waiting) (how x : ℕ) → IsHonest w → slice_get w.waiting i ≡ Some c →
-    x < 2 ^ 32 →
+answer_honest : (w : World) (i : ℕ) (c : Waiting) (how x : ℕ) → IsHonest w →
+    slice_get w.waiting i ≡ Some c → x < 2 ^ 32 →
     IsHonest (after_stop w.ended (without i w.waiting) (answered_story c.story how x)
     (resumed c.story.plugin c.pause how x w.table))
 answer_honest w i c how x honest at small = by_word (how == 0) refl
@@ -139,7 +146,8 @@ answer_honest w i c how x honest at small = by_word (how == 0) refl
         })
     by_word false e =
         refused_honest w.ended (without i w.waiting) (answered_story c.story how x)
-        (plain_answer how c.pause.id (c.pause.frame.limit - c.pause.left)) (by_place c.pause.frame.segment)
+        (plain_answer how c.pause.id (c.pause.frame.limit - c.pause.left))
+        (by_place c.pause.frame.segment)
         (undone c.pause.records w.table) honest.ended others e
 
 event_honest : (w : World) (e : Event) → FitEvent e → IsHonest w → IsHonest (after_event w e)
@@ -178,10 +186,12 @@ event_honest w (Answers i how x) fit honest = by_call (slice_get w.waiting i) re
         by_test true = answer_honest w i c how x honest e fit
         by_test false = honest
 
-all_honest : (events : List Event) (table : List Word) → FitEvents events → IsHonest (after events table)
+all_honest : (events : List Event) (table : List Word) → FitEvents events →
+    IsHonest (after events table)
 unfolding after
 all_honest [] table fit = record { waiting = tt; ended = tt }
-all_honest (e ∷ earlier) table fit = event_honest (after earlier table) e fit.0 (all_honest earlier table fit.1)
+all_honest (e ∷ earlier) table fit =
+    event_honest (after earlier table) e fit.0 (all_honest earlier table fit.1)
 
 -- ---- a story of words is a call that is answered in turn
 
@@ -221,7 +231,8 @@ answered_in_turn s [] table h = refl
 answered_in_turn s (a ∷ earlier) table h =
     ap (λ (how : ℕ). after_answer s.plugin how a.1 (alone s earlier table)) h.0
     ∙ ap (λ (f : Found). after_answer s.plugin 0 a.1 f) (answered_in_turn s earlier table h.1)
-    ∙ sym (answered_more s.plugin (words_of earlier) a.1 (call_says s.plugin s.request s.fed s.segment table))
+    ∙ sym (answered_more s.plugin (words_of earlier) a.1
+    (call_says s.plugin s.request s.fed s.segment table))
 
 -- ---- the law
 
@@ -230,10 +241,11 @@ record Holds (es : List Ending) (table : List Word) : Type 0 where
   fit : FitTable (one_by_one es table)
   written : AreAsWritten es table
 
-holds : Sandbox → RewrittenIsBoxed → Rewriting → SealedImagesLoad → (es : List Ending) (table : List Word) →
-    AllComplete es → AreSameCalls es table → FitTable table → Holds es table
+holds : Sandbox → RewrittenIsBoxed → Rewriting → SealedImagesLoad → (es : List Ending)
+    (table : List Word) → AllComplete es → AreSameCalls es table → FitTable table → Holds es table
 unfolding one_by_one
-holds sandbox is_boxed rewriting sealed [] table complete same fit = record { fit = fit; written = tt }
+holds sandbox is_boxed rewriting sealed [] table complete same fit =
+    record { fit = fit; written = tt }
 holds sandbox is_boxed rewriting sealed (e ∷ earlier) table complete same fit =
     let rest = holds sandbox is_boxed rewriting sealed earlier table complete.1 same.1 fit in
     let s = e.story in
@@ -241,17 +253,19 @@ holds sandbox is_boxed rewriting sealed (e ∷ earlier) table complete same fit 
     let before = one_by_one earlier table in
     let is : IsSameCall e before = same.0 in
     let turn = answered_in_turn s s.answers before told.given in
-    let answer : (outcome s.plugin s.request s.fed s.segment (words_of s.answers) before).answer ≡ e.answer =
+    let answer : (outcome s.plugin s.request s.fed s.segment (words_of s.answers) before).answer
+    ≡ e.answer =
     ap (λ (f : Found). f.answer) (sym turn) ∙ is.answer in
     let kind = ap (λ (a : Answer). a.kind) answer ∙ complete.0.kind in
     record {
       fit = subst (λ (f : Found). FitTable f.table) (sym turn)
-          (left_fits s.plugin s.request s.fed s.segment (words_of s.answers) before told.request rest.fit
-          told.words kind);
+          (left_fits s.plugin s.request s.fed s.segment (words_of s.answers) before told.request
+          rest.fit told.words kind);
       written = (
         λ text image compiled p keys keep spells boxed loads size.
-            program_ended sandbox is_boxed rewriting sealed text image compiled p keys keep s.plugin s.request s.fed
-            s.segment (words_of s.answers) before spells boxed loads size told.request rest.fit told.words kind
+            program_ended sandbox is_boxed rewriting sealed text image compiled p keys keep s.plugin
+            s.request s.fed s.segment (words_of s.answers) before spells boxed loads size
+            told.request rest.fit told.words kind
             ∙ ap (λ (a : Answer). Some (Answered a.r0 a.r1)) answer,
         rest.written,
       );

@@ -21,7 +21,7 @@ use Rattle.host_laws.specs.Talks.{talk_answers, answered_with}
 abbrev pub FitTable : List Word → Type 0
 FitTable table = (k : ℕ) (w : Word) → slice_get table k ≡ Some w → w.value < 2 ^ 32
 
--- what a call is asked with fits 32 bits
+-- the words that a call is asked with fit 32 bits
 pub record HasWords (request : Request) : Type 0 where
   pub r0 : request.r0 < 2 ^ 32
   pub r1 : request.r1 < 2 ^ 32
@@ -31,7 +31,8 @@ pub record HasWords (request : Request) : Type 0 where
 -- what a caller finds after a call is the end of a program: an answer that the point takes, a
 -- division by zero, or a trap
 pub record IsFoundAsSaid (request : Request) (fed : List ℕ) (end : End) (f : Found) : Type 0 where
-  pub answered : (r0 r1 : ℕ) → end ≡ Answered r0 r1 → is_taken request.point (length fed) r0 ≡ true →
+  pub answered : (r0 r1 : ℕ) → end ≡ Answered r0 r1 →
+      is_taken request.point (length fed) r0 ≡ true →
       (f.answer.kind ≡ RETURNED) × (f.answer.r0 ≡ r0) × (f.answer.r1 ≡ r1)
   pub divided : end ≡ DividedByZero → f.answer.kind ≡ DIVIDED
   pub trapped : (code : ℕ) → end ≡ Trapped code →
@@ -46,10 +47,10 @@ FitWords (x ∷ xs) = (x < 2 ^ 32) × FitWords xs
 abbrev pub boxed_image : (keep : Bool) → Image → Image
 boxed_image keep i = record { code = boxed_code i.code; body = i.body; keep = keep }
 
--- A text is compiled to an image, which is boxed, sealed and loaded. Where a program that the text
--- spells ends within n turns of its loops, given the words of the table and of the host as the answers
--- to its calls, a call of the plug-in answers so, if it may take 3 (n + 1) instructions for each of
--- the image's.
+-- A text is compiled to an image, which is boxed, sealed and loaded. If a program that the text
+-- spells ends within n turns of its loops, given the words of the table and of the host as the
+-- answers to its calls, a call of the plug-in answers in the same way, if it may take 3 (n + 1)
+-- instructions for each of the image's.
 abbrev pub WrittenPluginsDoWhatTheySay : Type 0
 WrittenPluginsDoWhatTheySay =
     (text : List ℕ) (image : Image) (compiled : IsCompiled text image) (p : grammar.Program)

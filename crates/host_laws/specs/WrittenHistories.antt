@@ -1,4 +1,5 @@
--- What is claimed of many calls over the same words, where plug-ins were written in the graft language.
+-- What is claimed of many calls over the same words, if the plug-ins were written in the graft
+-- language.
 use Rattle.std.specs.Prelude.{◌≡◌, ⊤, ℕ, ◌^◌, ◌<◌, Bool, List, [], ◌∷◌, ◌++◌, length, Some, Ok}
 use Rattle.kernel_data.specs.World.{Image}
 use Rattle.graft_code.specs.declared.Keys.{Keys}
@@ -24,15 +25,15 @@ abbrev pub FitEvents : List Event → Type 0
 FitEvents [] = ⊤
 FitEvents (e ∷ earlier) = FitEvent e × FitEvents earlier
 
--- the words with which the host answered a call, oldest first, where they are kept newest first
+-- the words with which the host answered a call, oldest first; they are kept newest first
 abbrev pub words_of : List (ℕ × ℕ) → List ℕ
 words_of [] = []
 words_of (a ∷ earlier) = words_of earlier ++ a.1 ∷ []
 
--- A call that completed answered what its program answers over this table: where a text was compiled to
--- an image, which was boxed, sealed and loaded as the call's plug-in, a program that the text spells,
--- given the words of this table and of the host as the answers to its calls, ends within as many
--- turns of its loops as the call's limit says, with the call's r0 and r1.
+-- A call that completed answered what its program answers over this table: if a text was compiled
+-- to an image, which was boxed, sealed and loaded as the call's plug-in, then a program that the
+-- text spells, given the words of this table and of the host as the answers to its calls, ends
+-- within as many turns of its loops as the call's limit says, with the call's r0 and r1.
 abbrev pub EndsAsWritten : Ending → List Word → Type 0
 EndsAsWritten e table =
     (text : List ℕ) (image : Image) (compiled : IsCompiled text image) (p : grammar.Program)
@@ -48,13 +49,13 @@ EndsAsWritten e table =
     (said (numbered compiled.syntax.names p) args answers r.limit).ended
     ≡ Some (Answered e.answer.r0 e.answer.r1)
 
--- each call that completed did so over the words that those leave which completed before it
+-- each call that completed did so over the words that were left by those that completed before it
 abbrev pub AreAsWritten : List Ending → List Word → Type 0
 AreAsWritten [] table = ⊤
 AreAsWritten (e ∷ earlier) table = EndsAsWritten e (one_by_one earlier table) × AreAsWritten earlier table
 
--- Whatever happens over words that belong to nobody at first: each call that completed answered what its
--- program answers over the words at its place, when the calls are made one at a time.
+-- Whatever happens over words that belong to nobody at first: each call that completed answered
+-- what its program answers over the words at its place, when the calls are made one at a time.
 abbrev pub CompletedCallsAreAsWritten : Type 0
 CompletedCallsAreAsWritten =
     (events : List Event) (table : List Word) → IsFree table → FitTable table → FitEvents events →

@@ -1,6 +1,7 @@
 //! A kernel for programs of one's own: over any table of calls, driven by events, with no text.
 //!
-//! It is opened over a disk, takes events one after another, and says of each what happened as notes.
+//! It is opened over a disk, takes events one after another, and reports in notes what happened at
+//! each event.
 //! The contracts are those of the kernel below (`kernel_core`), for this table.
 #![tactic(auto)]
 
@@ -43,7 +44,7 @@ pub struct Host<C: Calls, B: Policy> {
 
 impl<C: Calls, B: Policy> Host<C, B> {
     /// A kernel that was booted over this disk, with these stock policies, and what it says of the
-    /// boot. Takes all the memory that it ever does, but for images.
+    /// boot. It takes all the memory that it ever takes, except for images.
     pub fn open<D: Disk>(
         alloc: Global,
         setup: Setup,
@@ -80,8 +81,9 @@ impl<C: Calls, B: Policy> Host<C, B> {
         }
     }
 
-    /// Loads a sealed image under these keys into a slot that is free: how many instructions and data
-    /// bytes it has, or why it is refused, and then nothing changes. No event is counted.
+    /// Loads a sealed image under these keys into a free slot. It returns how many instructions and
+    /// data bytes the image has, or why the image is refused; if it is refused, nothing changes. No
+    /// event is counted.
     pub fn load(
         &mut self,
         alloc: Global,
@@ -103,8 +105,9 @@ impl<C: Calls, B: Policy> Host<C, B> {
         self.kernel.add_image(alloc, keys, slot, bytes)
     }
 
-    /// One event, with the bytes of its call. Its notes are left behind (`notes`). False, and nothing
-    /// changes, where no number is left for it: after 4,294,967,294 events. No memory is taken.
+    /// One event, with the bytes of its call. It leaves its notes (`notes`). It returns false, and
+    /// nothing changes, if no number is left for it: after 4,294,967,294 events. No memory is
+    /// taken.
     pub fn event<D: Disk>(
         &mut self,
         what: BareEvent,
@@ -135,7 +138,7 @@ impl<C: Calls, B: Policy> Host<C, B> {
         self.count
     }
 
-    /// The notes of the last event, in order, and the bytes that they gave, one behind the other. No
+    /// The notes of the last event, in order, and the bytes that they gave, one after the other. No
     /// event has more than 530 notes.
     pub fn notes(&self) -> (&[BareNote], &[u8])
         ensures value { self.now.trace.notes ≡ notes_with result.0.now result.1.now }
@@ -144,8 +147,8 @@ impl<C: Calls, B: Policy> Host<C, B> {
         self.trace.notes.parts()
     }
 
-    /// The number of the call that process p has in flight. None where it has none, and past the last
-    /// process.
+    /// The number of the call that process p has in flight. None if it has none, or if p is past
+    /// the last process.
     pub fn in_flight(&self, p: u8) -> Option<u32>
         ensures { result ≡ option_map (λ (c : PlacedCall). c.number) ((kernel_of self.now).call p) }
     {

@@ -1,9 +1,9 @@
 -- How a call begins and goes on, and what follows for a caller.
-use Rattle.std.proofs.Common.{◌≡◌, ℕ, ◌==◌, Bool, true, false, cond, List, [], ◌∷◌, length, sym, ap, subst, ◌∙◌}
+use Rattle.std.proofs.Common.{◌≡◌, ℕ, true, List, [], ◌∷◌, length, sym, ap, subst, ◌∙◌}
 use Rattle.std.proofs.Common.{eq-eqb}
 use Rattle.std.proofs.lemmas.Grind.{same_number_lists}
 use Rattle.graft_code.specs.Machine as model
-use Rattle.graft_code.specs.Machine.{first_machine, segment_base, FED_AT}
+use Rattle.graft_code.specs.Machine.{first_machine, segment_base}
 use Rattle.vino_host.specs.declared.Answer.{Answer}
 use Rattle.vino_host.specs.declared.Call.{Call}
 use Rattle.graft_code.specs.declared.Instr.{Instr}
@@ -15,8 +15,8 @@ use Rattle.vino_host.specs.Codes.{is_drop}
 use Rattle.vino_host.specs.HostMachine.{by_place, machine_of}
 use Rattle.vino_host.specs.HostRuns.{State, state, Ended, host_run, with_r0}
 use Rattle.vino_host.specs.Tables.{records_of, undone}
-use Rattle.vino_host.specs.Plugins.{code_of, body_of}
-use Rattle.vino_host.specs.Calls.{Frame, Pause, Found, found, found_in, filled, put_at}
+use Rattle.vino_host.specs.Plugins.{code_of}
+use Rattle.vino_host.specs.Calls.{Frame, Pause, Found, found, found_in}
 use Rattle.vino_host.specs.Calls.{first_segment, first_frame, call_says, resumed}
 use Rattle.vino_host.proofs.Kept.{run_kept}
 use Rattle.vino_host.proofs.Stopping.{dropped, waiting}
@@ -41,13 +41,6 @@ begins plugin request bytes segment new table f records cpu x all frame none pre
     (first new ∙ ap (λ (s : List ℕ). first_machine (segment_base 0) args (by_place s)) prepared)
     ∙ ap (λ (r : List Record). g (first_frame request bytes segment)
     (first_machine (segment_base 0) args (by_place (first_segment plugin request bytes segment))) r) none
-
--- a fresh segment hangs on no segment from before
-pub fresh_any : (plugin : List ℕ) (request : Request) (bytes s t : List ℕ) → (request.fresh == 0) ≡ false →
-    first_segment plugin request bytes s ≡ first_segment plugin request bytes t
-fresh_any plugin request bytes s t h =
-    let put : Bool → List ℕ → List ℕ = λ b r. put_at FED_AT bytes (cond b r (filled 4096 (body_of plugin))) in
-    ap (λ (b : Bool). put b s) h ∙ sym (ap (λ (b : Bool). put b t) h)
 
 -- a call that goes on with a word
 pub resumes : (plugin : List ℕ) (p : Pause) (how x : ℕ) (table : List Word) (f : Found) → how ≡ 0 →

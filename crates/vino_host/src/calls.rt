@@ -1,7 +1,6 @@
 //! Calls of a plug-in: how one begins, goes on, and stops.
 
-ghost use Rattle.std.specs.Prelude.{◌≡◌, ◌≤◌, ◌<◌, ◌-◌, ◌+◌, ◌++◌, List, ℕ, [], ◌∷◌, length};
-ghost use Rattle.std.specs.Prelude.{◌==◌, replicate, take, true, false};
+ghost use Rattle.std.specs.Prelude.{◌≡◌, ◌≤◌, ◌+◌, List, ℕ, [], ◌∷◌, length, true, false};
 ghost use Rattle.graft_code.specs.Machine.{first_machine, segment_base};
 ghost use Rattle.graft_code.specs.Machine as model;
 ghost use Rattle.vino_host.specs.Codes.{is_drop};
@@ -207,8 +206,8 @@ fn undo_words(call: &mut Call, left: u32, cause: u32, detail: u32, table: &mut [
     plain_answer(cause, detail, call.limit.saturating_sub(left))
 }
 
-/// A call that ran in bytes of its own completes, waits or is dropped, as its run says. Where it
-/// isn't dropped, the caller's segment gets these bytes.
+/// A call that ran in bytes of its own completes, waits or is dropped, as its run says. If it isn't
+/// dropped, the caller's segment gets these bytes.
 fn hand_over(call: &mut Call, stopped: &Stopped, segment: &mut [u8], table: &mut [Word]) -> Answer
     requires { length segment.old ≡ 4096 }
     ensures { found_in result call.new segment.new table.new
@@ -277,13 +276,16 @@ fn put_at(segment: &mut [u8], place: usize, bytes: &[u8])
     segment[place..place + bytes.len()].copy_from_slice(bytes);
 }
 
-/// The segment with which a call begins.
-fn prepare(plugin: &[u8], request: &Request, bytes: &[u8], segment: &mut [u8])
+/// The segment with which a call begins, in bytes of its own.
+fn prepare(plugin: &[u8], request: &Request, bytes: &[u8], before: &[u8], segment: &mut [u8])
     requires size { length segment.old ≡ 4096 }
+    requires before { length before.now ≡ 4096 }
     requires few { length bytes.now ≤ 512 }
-    ensures { segment.new ≡ first_segment plugin.now request.now bytes.now segment.old }
+    ensures { segment.new ≡ first_segment plugin.now request.now bytes.now before.now }
 {
-    if request.fresh != 0 {
+    if request.fresh == 0 {
+        segment.copy_from_slice(before);
+    } else {
         fill(segment, body(plugin));
     }
     put_at(segment, FED_AT, bytes);
@@ -316,47 +318,8 @@ fn keep(call: &mut Call, request: &Request, bytes: &[u8])
     call.log.count = 0;
 }
 
-/// A call begins in the caller's segment, which it keeps.
-fn begin_in_place(
-    plugin: &[u8],
-    call: &mut Call,
-    request: &Request,
-    bytes: &[u8],
-    segment: &mut [u8],
-    table: &mut [Word],
-) -> Answer
-    requires size { length segment.old ≡ 4096 }
-    requires few { length bytes.now ≤ 512 }
-    ensures { found_in result call.new segment.new table.new
-        ≡ call_says plugin.now request.now bytes.now segment.old table.old }
-{
-    keep(call, request, bytes);
-    call.segment.copy_from_slice(segment);
-    prepare(plugin, request, bytes, segment);
-    run_on(plugin, call, first(request), request.limit, segment, table)
-}
-
-/// A call begins with a fresh segment, in bytes of its own: a drop leaves the caller's as it is.
-fn begin_apart(
-    plugin: &[u8],
-    call: &mut Call,
-    request: &Request,
-    bytes: &[u8],
-    segment: &mut [u8],
-    table: &mut [Word],
-) -> Answer
-    requires size { length segment.old ≡ 4096 }
-    requires few { length bytes.now ≤ 512 }
-    requires fresh { (request.now.fresh == 0) ≡ false }
-    ensures { found_in result call.new segment.new table.new
-        ≡ call_says plugin.now request.now bytes.now segment.old table.old }
-{
-    keep(call, request, bytes);
-    prepare(plugin, request, bytes, &mut call.segment);
-    run_apart(plugin, call, first(request), request.limit, segment, table)
-}
-
-/// A call begins that is asked for as it must be.
+/// A call begins that is asked for as it must be. It runs in bytes of its own: if it is dropped, the
+/// caller's segment stays as it is.
 fn begin_asked(
     plugin: &[u8],
     call: &mut Call,
@@ -370,11 +333,9 @@ fn begin_asked(
     ensures { found_in result call.new segment.new table.new
         ≡ call_says plugin.now request.now bytes.now segment.old table.old }
 {
-    if request.fresh == 0 {
-        begin_in_place(plugin, call, request, bytes, segment, table)
-    } else {
-        begin_apart(plugin, call, request, bytes, segment, table)
-    }
+    keep(call, request, bytes);
+    prepare(plugin, request, bytes, segment, &mut call.segment);
+    run_apart(plugin, call, first(request), request.limit, segment, table)
 }
 
 /// Whether a call is asked for as it must be.
@@ -385,10 +346,10 @@ fn is_call(request: &Request, bytes: &[u8]) -> bool
 }
 
 /// Calls a plug-in: its code runs from its first instruction on, with r0 to r3 as the request says,
-/// in this segment of the caller's, until it returns, misbehaves, or asks the host. Where the request
-/// isn't as it must be (its number 0, its point above 15, more than 512 bytes) nothing is done.
+/// over this segment of the caller's, until it returns, misbehaves, or asks the host. If the request
+/// isn't as it must be (its number 0, its point above 15, more than 512 bytes), nothing is done.
 ///
-/// Where it is dropped, segment and table are as they were before, to the bit.
+/// If it is dropped, segment and table are as they were before, to the bit.
 pub fn begin(
     plugin: &[u8],
     call: &mut Call,
@@ -419,8 +380,8 @@ pub fn begin(
 }
 
 /// Answers a call that waits: with a word (how is 0), which it finds in r0, or with a refusal (how is
-/// the cause, `NOT_CALLABLE` or `BAD_ARGUMENT`), by which it is dropped. Where the call doesn't wait, or
-/// how is neither, nothing is done.
+/// the cause, `NOT_CALLABLE` or `BAD_ARGUMENT`), by which it is dropped. If the call doesn't wait, or
+/// how is none of these, nothing is done.
 pub fn resume(
     plugin: &[u8],
     call: &mut Call,

@@ -1,9 +1,6 @@
-// Links the static library and the kit's memory functions, which stand in the folders that VINO_LIBRARIES names, parted by ':'.
+// Links the static library, which is in the folder that VINO_LIBRARY names.
 fn main() {
-    for folder in std::env::var("VINO_LIBRARIES").unwrap_or_default().split(':') {
-        println!("cargo:rustc-link-search=native={folder}");
-    }
-    println!("cargo:rustc-link-lib=static=vino_host_c");
-    println!("cargo:rustc-link-lib=static=libc_c");
-    println!("cargo:rerun-if-env-changed=VINO_LIBRARIES");
+    println!("cargo:rustc-link-search=native={}", std::env::var("VINO_LIBRARY").unwrap_or_default());
+    println!("cargo:rustc-link-lib=static=vino_host");
+    println!("cargo:rerun-if-env-changed=VINO_LIBRARY");
 }
