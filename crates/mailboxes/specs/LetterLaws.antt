@@ -104,7 +104,8 @@ letter_ranges c s p low granted = tt
 
 -- ---- what a call looks at and changes
 
--- a post comes to the same where the receiver lives or not on both sides, and its box is empty or not
+-- a post comes to the same if the receiver lives on both sides or on neither, and if it lives, its
+-- box is empty on both sides or on neither
 post_same : (s u : Objects) (q x : ℕ) (a b e f : Bool) → a ≡ b → (a ≡ true → e ≡ f) →
     ComeToTheSame s u (post s q x a e) (post u q x b f)
 post_same s u q x true true true true h k = grind (arith, nat_tests)
