@@ -1,18 +1,13 @@
 //! The command line.
 
-use crate::boxing;
-use crate::edge::{NO_MEMORY, write_out};
 use crate::explain::explain;
-use crate::grade::grade;
-use crate::help::{help, help_of, no_words, options_of, wrong_option, wrong_words};
-use crate::picture::picture;
-use crate::run::{Telling, run_files};
-use crate::script::script;
-use crate::test::test;
-use crate::trace::trace;
-use crate::watch::watch;
-use crate::why::why_event;
 use kernel_data::NoMemory;
+use lab_comparing::{measure, score};
+use lab_files::{
+    NO_MEMORY, help, help_of, no_words, options_of, write_out, wrong_option, wrong_words,
+};
+use lab_judging::{audit, grade, test};
+use lab_showing::{Telling, picture, quiz, run_files, script, show_box, trace, watch, why_event};
 use std::alloc::Global;
 
 /// The words behind the name of a command: flags, the value of `--disk`, and others.
@@ -81,9 +76,10 @@ fn obey_given(rt: &HostRuntime, name: &str, given: &Given) -> u8 {
         }
         ("test", [_, ..]) => test(rt, given.others.as_slice()),
         ("script", [path]) => script(rt, path, given.key),
-        ("box", [path, graft]) => boxing::show(rt, path, graft),
+        ("box", [path, graft]) => show_box(rt, path, graft),
         ("watch", [path]) => watch(rt, path),
         ("why", [path, event]) => why_event(rt, path, event),
+        ("audit", [path, claim]) => audit(rt, path, claim),
         _ => wrong_words(rt, name),
     }
 }
@@ -109,7 +105,7 @@ fn is_option(name: &str, word: &str) -> bool {
 
 /// Whether a value stands behind an option.
 fn takes_value(word: &str) -> bool {
-    word == "--disk" || word == "--from" || word == "--to"
+    word == "--disk" || word == "--from" || word == "--to" || word == "--seed"
 }
 
 /// Whether a word asks for help.
@@ -132,11 +128,14 @@ fn obey_command(rt: &HostRuntime, name: &str, words: &[String]) -> u8 {
     }
     match (name, words) {
         ("help", []) => help(rt),
-        ("--version", []) => write_out(rt, b"lab 0.9.0\n", 0),
+        ("--version", []) => write_out(rt, b"lab 1.0.0\n", 0),
         ("help", [command]) => help_of(rt, command.as_str()),
         ("explain", _) => explain(rt, words),
         ("grade", _) => grade(rt, words),
+        ("measure", _) => measure(rt, words),
         ("picture", _) => picture(rt, words),
+        ("quiz", _) => quiz(rt, words),
+        ("score", _) => score(rt, words),
         ("trace", _) => trace(rt, words),
         _ => match read(rt.alloc(), words) {
             Ok(given) => obey_given(rt, name, &given),

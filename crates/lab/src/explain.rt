@@ -1,8 +1,7 @@
 //! `lab explain`.
 
-use crate::edge::{NO_MEMORY, OUTPUT_FAILED, REFUSED, write_error, write_out};
-use crate::help::wrong_words;
 use kernel_data::NoMemory;
+use lab_files::{NO_MEMORY, OUTPUT_FAILED, REFUSED, write_error, write_out, wrong_words};
 use lab_words::{Code, Form, code_of, codes_page, explanation, form_of, sentence_of};
 use std::alloc::Global;
 use text_words::append;

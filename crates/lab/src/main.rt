@@ -1,25 +1,11 @@
 //! The program `lab`: lab files are run, tested, lowered and looked at.
 #![tactic(auto)]
 
-mod boxing;
-mod colour;
 mod command;
-mod edge;
 mod explain;
-mod files;
-mod grade;
-mod help;
-mod picture;
-mod run;
-mod script;
-mod stock;
-mod test;
-mod trace;
-mod watch;
-mod why;
 
 use crate::command::obey;
-use crate::edge::{NO_MEMORY, REFUSED, write_error};
+use lab_files::{NO_MEMORY, REFUSED, write_error};
 use std::process::ExitCode;
 use std::{env, io};
 

@@ -1,5 +1,6 @@
 -- Which lines of a script are events, and how many a picture shows.
-use Rattle.std.specs.Prelude.{ℕ, ◌+◌, ◌-◌, ◌==◌, Bool, true, not, ◌&&◌, ◌||◌, cond, min, max, List, [], ◌∷◌, codes, count_by}
+use Rattle.std.specs.Prelude.{ℕ, ◌+◌, ◌-◌, ◌==◌, Bool, true, not, ◌&&◌, ◌||◌, cond, min, max, List}
+use Rattle.std.specs.Prelude.{[], ◌∷◌, codes, count_by}
 use Rattle.std.specs.List.{slice_split}
 use Rattle.script_model.specs.World.{same_bytes}
 use Rattle.script_model.specs.Script as script

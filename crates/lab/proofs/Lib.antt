@@ -1,3 +1,0 @@
-mod Grading
-mod Judging
-mod WantsOrder

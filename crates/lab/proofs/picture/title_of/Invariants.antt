@@ -1,8 +1,0 @@
-use Rattle.std.proofs.Common.{length}
-use Rattle.lab.proofs.picture.title_of.Given as goal
-
-abbrev pub decreases-loop-part : goal.decreases-loop-part
-decreases-loop-part l = length l.parts
-
-abbrev pub decreases-loop-word : goal.decreases-loop-word
-decreases-loop-word l = length l.words

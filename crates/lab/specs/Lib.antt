@@ -1,2 +1,0 @@
-pub mod Grading
-pub mod Tested

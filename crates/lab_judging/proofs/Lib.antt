@@ -1,0 +1,4 @@
+mod Auditing
+mod Grading
+mod Judging
+mod WantsOrder
