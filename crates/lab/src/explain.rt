@@ -46,9 +46,12 @@ fn meaning_of(alloc: Global, text: &[u8]) -> Result<Vec<u8>, NoMemory> {
 fn explain_text(rt: &HostRuntime, text: &[u8]) -> Result<u8, NoMemory> {
     let said = meaning_of(rt.alloc(), text)?;
     if said.is_empty() {
-        write_error(rt, b"lab: no code, and no written line that wants words: ");
+        write_error(rt, b"lab: '");
         write_error(rt, text);
-        write_error(rt, b"\n");
+        write_error(
+            rt,
+            b"' is neither a code nor a line that the kernel writes; `lab explain --all` lists the codes\n",
+        );
         return Ok(REFUSED);
     }
     Ok(write_out(rt, said.as_slice(), 0))

@@ -18,7 +18,7 @@ pub(crate) fn tell_same(alloc: Global, names: Names) -> Result<Vec<u8>, NoMemory
     let mut text = Vec::new(alloc);
     append(&mut text, names.lab)?;
     append(&mut text, b": ")?;
-    append(&mut text, names.claim)?;
+    append(&mut text, shown_name(names.claim))?;
     append(&mut text, b" is what the script writes\n")?;
     Ok(text)
 }
@@ -39,7 +39,22 @@ pub(crate) fn tell_difference(
     tell_line(&mut text, claimed, from)?;
     append(&mut text, b"    right:   ")?;
     tell_line(&mut text, right.text.as_slice(), from)?;
+    if claimed.ends_with(b"\r\n") {
+        append(
+            &mut text,
+            b"    its lines end with CR LF; save it with LF\n",
+        )?;
+    }
     Ok(text)
+}
+
+/// A file's name; the standard input has none.
+fn shown_name(name: &[u8]) -> &[u8] {
+    if name == b"-".as_slice() {
+        b"standard input"
+    } else {
+        name
+    }
 }
 
 /// Which line differs, and which line of the lab file writes it.
@@ -52,7 +67,7 @@ fn tell_place(text: &mut Vec<u8>, names: Names, line: u32, by: u32) -> Result<()
     append(text, b": line ")?;
     append_number(text, line)?;
     append(text, b" of ")?;
-    append(text, names.claim)?;
+    append(text, shown_name(names.claim))?;
     append(text, b" isn't what the script writes\n")
 }
 

@@ -158,7 +158,7 @@ fn blamed_of(text: &[u8], statement: Statement, kind: LabKind) -> (Span, &'stati
         LabKind::BoxJump(_) => (last_word(text, statement), " leads past the code"),
         LabKind::BoxCall(_) => (
             last_word(text, statement),
-            " is no callable: their ids are 0 to 15",
+            " isn't a callable: their ids are 0 to 15",
         ),
         _ => (
             statement.first,

@@ -56,13 +56,13 @@ fn is_register(word: &[u8]) -> bool {
 /// What helps where a word is no register.
 fn register_hint(word: &[u8]) -> &'static str {
     if word.contains(&b',') {
-        "operands are parted by spaces"
+        "separate operands by spaces, not by commas"
     } else if word.contains(&b'[') || word.contains(&b'(') {
         "an address is a register alone, as in `ldw r1 r2`"
     } else if has_capital(word) {
-        "registers are written small, r0 to r15"
+        "use small letters: registers are r0 to r15"
     } else if number_of(word).is_some() {
-        "here stands a register; `li r1 5` puts a number into one"
+        "a register is needed here; `li r1 5` puts a number into one"
     } else {
         "registers are r0 to r15"
     }
@@ -73,7 +73,7 @@ fn number_hint(word: &[u8]) -> &'static str {
     if word.starts_with(b"-") {
         "numbers are 0 to 4294967295; -1 is 4294967295"
     } else if word.contains(&b',') {
-        "operands are parted by spaces"
+        "separate operands by spaces, not by commas"
     } else if word.starts_with(b"0x") || word.starts_with(b"0X") {
         "hex is 0x and hex digits, at most 0xffffffff"
     } else {
@@ -235,9 +235,9 @@ fn check_mnemonic(word: &[u8], span: Span) -> Option<Wrong> {
     } else if word.contains(&b':') {
         "a label is a letter a to z, then letters, digits and _, up to 16 bytes, and a colon"
     } else if has_capital(word) {
-        "instructions are written small"
+        "use small letters for instructions"
     } else if word.contains(&b',') {
-        "operands are parted by spaces"
+        "separate operands by spaces, not by commas"
     } else if id_of(word).is_some() {
         "a callable is called by `call` and its name"
     } else {
@@ -256,8 +256,8 @@ pub fn check_statement(line: &[u8], from: usize, end: usize) -> Option<Wrong> {
             let behind = next_word(line, first.to, end)?;
             return blames(
                 behind,
-                "stands behind a label",
-                "a label stands alone; part them by `;`",
+                "follows a label",
+                "put `;` or a new line between them",
             );
         }
     }

@@ -163,8 +163,8 @@ fn said_of(kind: LabKind) -> (usize, &'static str) {
     match kind {
         LabKind::BadGraft => (
             2,
-            "behind `graft` stands a name, then `language` for the graft language, then `keep` for a \
-             segment that is kept",
+            "after `graft` comes a name, then perhaps `language` for the graft language, then perhaps \
+             `keep` for a segment that is kept",
         ),
         LabKind::BadName => (
             1,
@@ -174,37 +174,31 @@ fn said_of(kind: LabKind) -> (usize, &'static str) {
         LabKind::GraftTwice => (1, "is the name of a graft above"),
         LabKind::LongGraft => (1, "has more than 16777216 bytes of text"),
         LabKind::NoEnd => (0, "begins here and has no `end`"),
-        LabKind::StrayEnd => (0, "stands outside of a graft"),
-        LabKind::UnknownGraft => (
-            2,
-            "isn't a graft that was written above, nor the hex digits of an image",
-        ),
+        LabKind::StrayEnd => (0, "is outside of a graft"),
+        LabKind::UnknownGraft => (2, "isn't a graft above or the hex digits of an image"),
         LabKind::BadSlot => (1, "isn't a slot: slots are 0 to 31"),
         LabKind::SlotTwice => (1, "is a slot that has the image of a graft already"),
         LabKind::BadKey => (
             1,
             "isn't a key: 64 hex digits, or two keys with a comma between them",
         ),
-        LabKind::KeyTwice => (0, "stands twice"),
-        LabKind::KeyLate => (
-            0,
-            "stands behind an image that is sealed under it; put it above",
-        ),
+        LabKind::KeyTwice => (0, "is there twice"),
+        LabKind::KeyLate => (0, "comes after an image that it seals; move it up"),
         LabKind::BadDisk => (1, "isn't one file: `disk FILE`"),
-        LabKind::DiskTwice => (0, "stands twice"),
+        LabKind::DiskTwice => (0, "is there twice"),
         LabKind::BadFails => (2, "isn't a list of calls: `fail disk 3,7`"),
         LabKind::FailsTwice => (
             0,
-            "stands twice; name all calls in one line, as `fail disk 3,7`",
+            "is there twice; name all calls in one line, as `fail disk 3,7`",
         ),
         LabKind::FailsOnFile => (
             0,
             "`fail disk` is for the disk in memory, and not beside `disk FILE`",
         ),
-        LabKind::EmptyWant => (0, "nothing stands behind `=`"),
+        LabKind::EmptyWant => (0, "nothing follows `=`"),
         LabKind::StrayWant => (
             0,
-            "a wanted line stands behind a line of the script, or below it",
+            "a wanted line comes after a line of the script, or below it",
         ),
         LabKind::BoxTooLong => (
             2,

@@ -15,4 +15,6 @@ pub use crate::edge::{
 pub use crate::files::{Opened, open, read_bytes};
 pub use crate::runs::{ALL_EVENTS, spent_causes, status_of, tell_refused};
 pub use crate::stock::{Spare, run_lab, spare_disk, tell_lab};
-pub use crate::usage::{help, help_of, no_words, options_of, wrong_option, wrong_words};
+pub use crate::usage::{
+    help, help_of, no_words, options_of, wrong_option, wrong_range, wrong_words,
+};

@@ -173,6 +173,17 @@ pub fn no_words(rt: &HostRuntime) -> u8 {
     REFUSED
 }
 
+/// Tells that the events or moments asked for end before they begin: the status.
+pub fn wrong_range(rt: &HostRuntime) -> u8
+    ensures { result ≡ 2 }
+{
+    write_error(
+        rt,
+        b"lab: the number after --from is above the one after --to\n",
+    );
+    REFUSED
+}
+
 /// Tells that there is no command of this name: the status.
 fn no_command(rt: &HostRuntime, name: &str) -> u8
     ensures { result ≡ 2 }

@@ -74,7 +74,7 @@ fn tell_words(out: &mut Vec<u8>, line: &[u8], slots: &[Slot]) -> Result<usize, N
         if *slot == Slot::Kind && place_of(word, &["steps", "records", "locks"]).is_none() {
             append(out, b"; ")?;
             add_quoted(out, word)?;
-            append(out, b" is none of steps, records and locks")?;
+            append(out, b" isn't one of steps, records and locks")?;
             return Ok(i.saturating_add(1));
         }
         if *slot == Slot::Object && !is_object(word) {
@@ -82,7 +82,7 @@ fn tell_words(out: &mut Vec<u8>, line: &[u8], slots: &[Slot]) -> Result<usize, N
             add_quoted(out, word)?;
             append(
                 out,
-                b" is none of graft, acct, cell, open, queue, cache, lock and pol",
+                b" isn't one of graft, acct, cell, open, queue, cache, lock and pol",
             )?;
             return Ok(i.saturating_add(1));
         }
@@ -114,7 +114,7 @@ fn is_name_byte(byte: u8) -> bool {
 /// What the word for this number should be, where it isn't.
 fn number_wanted(name: &str, number: Option<u32>) -> Option<&'static [u8]> {
     match (name, number) {
-        (_, None) => Some(b"is no number: decimal digits, at most 4294967295"),
+        (_, None) => Some(b"isn't a number: decimal digits, at most 4294967295"),
         ("frames", Some(n)) if n < 2 || n > 64 => Some(b"isn't 2 to 64"),
         ("ticks", Some(n)) if n < 1 || n > 1000 => Some(b"isn't 1 to 1000"),
         _ => None,
@@ -129,7 +129,7 @@ fn wanted_at(slot: Slot, word: &[u8]) -> Option<&'static [u8]> {
             if is_name(word) {
                 None
             } else {
-                Some(b"is no name: 1 to 16 of a to z, 0 to 9, '.', '_' and '-'")
+                Some(b"isn't a name: 1 to 16 of a to z, 0 to 9, '.', '_' and '-'")
             }
         }
         Slot::Hex => {
@@ -137,7 +137,7 @@ fn wanted_at(slot: Slot, word: &[u8]) -> Option<&'static [u8]> {
             if digits && word.len() % 2 == 0 && word.len() >= 2 {
                 None
             } else {
-                Some(b"is no hex: hex digits, an even number of them")
+                Some(b"isn't hex: hex digits, an even number of them")
             }
         }
         Slot::Kind | Slot::Object => None,
@@ -167,7 +167,7 @@ fn tell_command(alloc: Global, out: &mut Vec<u8>, word: &[u8]) -> Result<(), NoM
         add_quoted(out, rest)?;
         return append(
             out,
-            b" stands behind a byte order mark: save the file without one",
+            b" comes after a byte order mark: save the file without one",
         );
     }
     add_quoted(out, word)?;
@@ -177,7 +177,7 @@ fn tell_command(alloc: Global, out: &mut Vec<u8>, word: &[u8]) -> Result<(), NoM
     if op_named(word).is_some() || word.ends_with(b":") {
         return append(
             out,
-            b" belongs into a graft: `graft NAME` begins one, `end` ends it",
+            b" belongs in a graft: `graft NAME` begins one, `end` ends it",
         );
     }
     match most_like(alloc, word, &COMMANDS)? {
@@ -186,7 +186,7 @@ fn tell_command(alloc: Global, out: &mut Vec<u8>, word: &[u8]) -> Result<(), NoM
             add_quoted(out, COMMANDS[i].as_bytes())?;
             append(out, b"?")
         }
-        None => append(out, b" is no command: docs/FORMATS.md lists them"),
+        None => append(out, b" isn't a command: docs/FORMATS.md lists them"),
     }
 }
 
@@ -229,10 +229,10 @@ fn tell_script(
 fn tell_place(out: &mut Vec<u8>, first: &[u8]) -> Result<(), NoMemory> {
     add_quoted(out, first)?;
     if first == b"boot".as_slice() {
-        append(out, b" stands once")
+        append(out, b" may come only once")
     } else if place_of(first, &["frames", "patience", "grant"]).is_some() {
-        append(out, b" stands above `boot`")
+        append(out, b" must come before `boot`")
     } else {
-        append(out, b" stands below `boot`")
+        append(out, b" must come after `boot`")
     }
 }

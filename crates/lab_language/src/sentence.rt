@@ -73,9 +73,9 @@ fn token_hint(word: &[u8]) -> &'static [u8] {
 /// A word that is no token.
 fn tell_token(out: &mut Vec<u8>, word: &[u8]) -> Result<(), NoMemory> {
     add_quoted(out, word)?;
-    append(out, b" is no token: ")?;
+    append(out, b" isn't a token: ")?;
     if is_joined(word) && !word.starts_with(b"//") {
-        append(out, b"spaces part tokens, as in ")?;
+        append(out, b"separate tokens by spaces, as in ")?;
         return add_parted(out, word);
     }
     append(out, token_hint(word))
@@ -102,7 +102,7 @@ fn add_standing(out: &mut Vec<u8>, read: Read, k: usize) -> Result<(), NoMemory>
     } else {
         append(out, b"after ")?;
         add_quoted(out, word_of(read, k.saturating_sub(1)))?;
-        append(out, b" stands ")?;
+        append(out, b" comes ")?;
     }
     add_quoted(out, word_of(read, k))
 }
@@ -110,7 +110,7 @@ fn add_standing(out: &mut Vec<u8>, read: Read, k: usize) -> Result<(), NoMemory>
 /// A token with which no program goes on.
 fn tell_program(alloc: Global, out: &mut Vec<u8>, read: Read, k: usize) -> Result<(), NoMemory> {
     if k >= read.words.len() {
-        append(out, b"the text ends too early; here could stand ")?;
+        append(out, b"the text ends too early; possible here: ")?;
         return add_could(alloc, out, read.text, read.words, k);
     }
     add_standing(out, read, k)?;
@@ -125,7 +125,7 @@ fn tell_program(alloc: Global, out: &mut Vec<u8>, read: Read, k: usize) -> Resul
         append(out, behind)?;
         return append(out, b" )");
     }
-    append(out, b"; here could stand ")?;
+    append(out, b"; possible here: ")?;
     add_could(alloc, out, read.text, read.words, k)
 }
 

@@ -1,6 +1,6 @@
 //! Whether a run wrote what a test wants.
 
-ghost use Rattle.std.specs.Prelude.{◌≡◌, ◌==◌, ◌++◌, not, length, drop, codes, filter, is_some, true, IfOk, OnOk};
+ghost use Rattle.std.specs.Prelude.{◌≡◌, ◌==◌, ◌++◌, ◌||◌, not, length, drop, codes, filter, is_some, true, IfOk, OnOk};
 ghost use Rattle.std.specs.List.{list_any, list_all};
 ghost use Rattle.lab_lines.specs.AsWanted.{is_refusal};
 ghost use Rattle.lab_lines.specs.Told.{lines_of};
@@ -241,6 +241,17 @@ fn first_refused(wants: &[Want], last: usize, pieces: &[Piece]) -> Option<usize>
     None
 }
 
+/// The earlier of two lines of the script.
+fn earlier(one: Option<usize>, other: Option<usize>) -> Option<usize>
+    ensures { is_some result ≡ is_some one || is_some other }
+{
+    match (one, other) {
+        (Some(one), Some(other)) => Some(one.min(other)),
+        (Some(one), None) => Some(one),
+        (None, other) => other,
+    }
+}
+
 /// The first line of the script that didn't write what is wanted of it, or that wrote a refusal
 /// which isn't wanted. `last` is the line to which the end of the run belongs.
 pub fn first_other(
@@ -253,8 +264,6 @@ pub fn first_other(
     ensures { IfOk result (λ first. is_some first
         ≡ not (spec.is_passed wants.now last pieces.now)) }
 {
-    match first_wanting(alloc, wants, last, pieces)? {
-        Some(owner) => Ok(Some(owner)),
-        None => Ok(first_refused(wants, last, pieces)),
-    }
+    let wanting = first_wanting(alloc, wants, last, pieces)?;
+    Ok(earlier(wanting, first_refused(wants, last, pieces)))
 }

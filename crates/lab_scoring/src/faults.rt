@@ -11,7 +11,7 @@ use text_words::{append, put};
 
 /// What is said of a share, behind its name.
 const IS_SHARE: &[u8] =
-    b"' is a share, and shares aren't summed over tests: a count is wanted; docs/MEASURE.md lists them\n";
+    b"' is a share, and shares can't be summed over tests; name a count: docs/MEASURE.md lists them\n";
 
 /// The name of a figure of this run that a word is most like.
 fn name_like<'a>(
@@ -102,11 +102,8 @@ pub fn tell_no_figure(alloc: Global, path: &[u8], line: usize) -> Result<Vec<u8>
     append_place(&mut out, line)?;
     append(
         &mut out,
-        b": no line above this test says by which figure submissions are ",
+        b": the task names no figure: write `score least FIGURE` or `score most FIGURE` ",
     )?;
-    append(
-        &mut out,
-        b"ranked: `score least FIGURE` or `score most FIGURE`\n",
-    )?;
+    append(&mut out, b"before its first test\n")?;
     Ok(out)
 }

@@ -25,8 +25,9 @@ fn show_graft(rt: &HostRuntime, opened: &Opened, name: &str) -> u8 {
             None => NO_MEMORY,
         },
         None => {
+            write_error(rt, b"lab: there is no graft '");
             write_error(rt, name.as_bytes());
-            write_error(rt, b": there is no graft of this name\n");
+            write_error(rt, b"' in the file\n");
             REFUSED
         }
     }

@@ -3,7 +3,7 @@
 use kernel_data::NoMemory;
 use lab_files::{
     ALL_EVENTS, NO_MEMORY, Opened, REFUSED, open, run_lab, status_of, tell_refused, write_error,
-    write_out, wrong_words,
+    write_out, wrong_range, wrong_words,
 };
 use lab_lines::{Piece, pieces_of};
 use lab_lowering::{Item, Lab, Lowered};
@@ -275,6 +275,7 @@ fn asked(words: &[String]) -> Option<(&str, Chosen)> {
 /// `lab picture FILE [--from N] [--to N]`, with the words behind it: the status.
 pub fn picture(rt: &HostRuntime, words: &[String]) -> u8 {
     match asked(words) {
+        Some((_, chosen)) if chosen.first > chosen.last => wrong_range(rt),
         Some((path, chosen)) => picture_of(rt, path, chosen),
         None => wrong_words(rt, "picture"),
     }

@@ -5,7 +5,8 @@ use graft_points::{
 };
 use kernel_data::NoMemory;
 use lab_files::{
-    NO_MEMORY, OUTPUT_FAILED, Opened, Spare, open, run_lab, spare_disk, status_of, wrong_words,
+    NO_MEMORY, OUTPUT_FAILED, Opened, Spare, open, run_lab, spare_disk, status_of, wrong_range,
+    wrong_words,
 };
 use lab_trace::{Given, Stop, trace_run};
 use mem_disk::Disk;
@@ -105,6 +106,9 @@ pub fn trace(rt: &HostRuntime, words: &[String]) -> u8 {
     let Some(asked) = words_asked(words) else {
         return wrong_words(rt, "trace");
     };
+    if asked.from > asked.to {
+        return wrong_range(rt);
+    }
     match open(rt, asked.path) {
         Err(status) => status,
         Ok(opened) => trace_lab(rt, &opened, asked).unwrap_or(NO_MEMORY),

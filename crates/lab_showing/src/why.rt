@@ -36,7 +36,7 @@ fn why_opened(rt: &HostRuntime, mut opened: Opened, event: u32) -> Result<u8, No
     };
     let text = why(alloc, run, &mut hints, event)?;
     if text.is_empty() {
-        let _ = eprintln!(rt; "lab: no line was written of event {event}");
+        let _ = eprintln!(rt; "lab: event {event} wrote no line");
         return Ok(REFUSED);
     }
     Ok(write_out(rt, text.as_slice(), status_of(&ran)))

@@ -57,7 +57,7 @@ fn of_submission(
             alloc,
             path,
             n,
-            b"a submission has grafts (`graft NAME` .. `end`) and remarks alone",
+            b"a submission has only grafts (`graft NAME` .. `end`) and remarks",
         ),
         SubmissionFault::NoEnd(n) => {
             of_line(alloc, path, n, b"the graft that begins here has no `end`")

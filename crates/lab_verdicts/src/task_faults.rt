@@ -11,18 +11,20 @@ use text_words::append;
 fn said_of(kind: TaskKind) -> &'static [u8] {
     match kind {
         TaskKind::StrayLine => {
-            b"before the first test stand `title`, `gives`, `score` and remarks alone"
+            b"only `title`, `gives`, `score` and remarks may come before the first test; is this file a task?"
         }
-        TaskKind::BadTitle => b"the title stands once, before the first test: `title WORDS`",
-        TaskKind::BadGives => b"the grafts stand once, before the first test: `gives NAME..`",
+        TaskKind::BadTitle => b"write `title WORDS` at most once, before the first test",
+        TaskKind::BadGives =>
+            b"write `gives NAME..` once, before the first test, with at least one name",
         TaskKind::BadScore => {
-            b"the figure of a ranking stands once, before the first test: `score least FIGURE` or `score most FIGURE`"
+            b"write `score least FIGURE` or `score most FIGURE` at most once, before the first test"
         }
         TaskKind::BadTest => {
             b"a test begins with `test NAME POINTS` or `test NAME POINTS hidden`; its name has letters a to z, digits and `-`, up to 32 bytes"
         }
-        TaskKind::BadPoints => b"behind the name of a test stand its points, 0 to 1,000",
-        TaskKind::TestTwice => b"there is a test of this name above",
+        TaskKind::BadPoints =>
+            b"the points of the test are missing or too large: `test NAME POINTS`, with points from 0 to 1,000",
+        TaskKind::TestTwice => b"a test above has this name already; choose another",
         TaskKind::DiskFile => b"the disk of a test can't be a file, since its run changes it",
         TaskKind::NoTest => b"there is no test: `test NAME POINTS` begins one",
         TaskKind::NoGives => b"no line says which grafts a submission gives: `gives NAME..`",
@@ -62,13 +64,13 @@ pub fn tell_check_fault(
             alloc,
             path,
             line,
-            b"this test wants nothing: `= LINE` behind a line of its script",
+            b"this test wants nothing: write `= LINE` after a line of its script",
         ),
         CheckFault::BadWant(line) => of_line(
             alloc,
             path,
             line,
-            b"`= state` and a row of `raw`, or `= limit ran N`, is wanted here",
+            b"write `= state ROW` with a row of `raw`, or `= limit ran N`",
         ),
         CheckFault::NoMemory => Err(NoMemory),
     }

@@ -68,22 +68,38 @@ fn next_line<'a>(lines: &mut Parts<'a>) -> &'a [u8] {
     line
 }
 
+/// What is shown of the written lines: words where there are none.
+fn shown_of(got: &[u8]) -> &[u8] {
+    if got.is_empty() { b"(nothing)" } else { got }
+}
+
+/// What is said where no pair has a mark.
+const UNMARKED: &[u8] =
+    b"      ! the written lines don't meet what `..`, `state` or `limit` wants\n";
+
 /// Appends wanted and written lines side by side; the first pair that differs has a mark.
-fn add_pairs(out: &mut Vec<u8>, wanted: &[u8], got: &[u8]) -> Result<(), NoMemory> {
+fn add_pairs(out: &mut Vec<u8>, wanted: &[u8], written: &[u8]) -> Result<(), NoMemory> {
     let width = width_of(wanted);
+    let got = shown_of(written);
     add_pair(out, width, b"wanted", b"", b"written")?;
     let mut wants = Parts::new(without_newline(wanted), b'\n');
     let mut lines = Parts::new(without_newline(got), b'\n');
     let mut same = true;
+    let mut marked = false;
     for _ in 0..count_lines(wanted).max(count_lines(got)) {
         let want = next_line(&mut wants);
         let line = next_line(&mut lines);
         let differs = same && !is_loose(want) && !is_wanted(want, line);
         same = same && !differs && !is_loose(want);
+        marked = marked || differs;
         let mark: &[u8] = if differs { b"!" } else { b"" };
         add_pair(out, width, want, mark, line)?;
     }
-    Ok(())
+    if marked {
+        Ok(())
+    } else {
+        append(out, UNMARKED)
+    }
 }
 
 /// Appends what a line wanted and wrote, and the hint.

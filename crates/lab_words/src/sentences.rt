@@ -207,7 +207,7 @@ fn tell_code(out: &mut Vec<u8>, code: Code, line: &[u8]) -> Result<(), NoMemory>
     match code {
         Code::Script(_) => {
             tell_line(out, b"", code, line)?;
-            append(out, b". Nothing behind it is run")
+            append(out, b". Nothing after it runs")
         }
         Code::Call(code) => tell_call(out, code, line),
         Code::Drop(code) => tell_drop(out, code, line),
