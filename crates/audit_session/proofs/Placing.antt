@@ -11,7 +11,7 @@ use Rattle.script_model.specs.Script.{Entry, Boot, ScriptFault, WrongPlace, Unkn
 use Rattle.script_model.specs.Script.{TooLong, IMAGE_DIGITS, LINE_BYTES, is_setup, all_commands}
 use Rattle.script_model.specs.Script.{command_word, is_blank, within, loads_by, happens_by}
 use Rattle.script_model.specs.Script.{call_of, entry_of, entry_by, entry_at, words_said, forms_of}
-use Rattle.script_model.specs.Script.{same_bool, words_of, other_words, first_word, command_named}
+use Rattle.script_model.specs.Script.{same_bool, words_of, other_words, first_word, command_among}
 use Rattle.script_model.specs.Script.{parsed_line}
 
 -- a line says `boot`
@@ -62,15 +62,16 @@ line_boots : (text : List ℕ) (long blank : Bool) →
       | true ↦ Err TooLong
       | false ↦ elim blank as (λ _. Result Entry ScriptFault) [
         | true ↦ Ok script.Blank
-        | false ↦ entry_at true (other_words (words_of text)) (command_named (first_word (words_of text)))
+        | false ↦ entry_at true (other_words (words_of text)) (command_among [] (first_word (words_of text)))
       ]
     ]) ≡ false
 line_boots text true blank = refl
 line_boots text false true = refl
-line_boots text false false = command_boots (other_words (words_of text)) (command_named (first_word (words_of text)))
+line_boots text false false =
+    command_boots (other_words (words_of text)) (command_among [] (first_word (words_of text)))
 
 -- so a line that says it stands before it
-pub boot_is_first : (booted : Bool) (text : List ℕ) → parsed_line booted text ≡ Ok Boot → booted ≡ false
+pub boot_is_first : (booted : Bool) (text : List ℕ) → parsed_line [] booted text ≡ Ok Boot → booted ≡ false
 boot_is_first false text is = refl
 boot_is_first true text is =
     absurd (contrary

@@ -35,7 +35,7 @@ same_boot (Some r) = refl
 
 -- a line is read where none was refused
 line_read : (keys : Keys) (s : Session) (text : List ℕ) (b : Bool) (said : Result Entry script.ScriptFault) →
-    s.refused ≡ false → b ≡ is_some s.run → parsed_line b text ≡ said →
+    s.refused ≡ false → b ≡ is_some s.run → parsed_line [] b text ≡ said →
     after_line whole keys 64 (session_of s) text []
     ≡ after_parse whole keys 64 (record (session_of s) { lines = suc s.lines }) said []
 line_read keys s text b said going booted is =
@@ -43,14 +43,14 @@ line_read keys s text b said going booted is =
     let later = record m { lines = suc s.lines } in
     ap (λ (x : Bool). elim x as (λ _. Written) [
       | true ↦ silent m []
-      | false ↦ after_parse whole keys 64 later (parsed_line (is_some m.kernel) text) []
+      | false ↦ after_parse whole keys 64 later (parsed_line [] (is_some m.kernel) text) []
     ]) going
-    ∙ ap (λ (x : Bool). after_parse whole keys 64 later (parsed_line x text) []) (same_boot s.run ∙ sym booted)
+    ∙ ap (λ (x : Bool). after_parse whole keys 64 later (parsed_line [] x text) []) (same_boot s.run ∙ sym booted)
     ∙ ap (λ (x : Result Entry script.ScriptFault). after_parse whole keys 64 later x []) is
 
 -- a line that says an entry
 pub line_entered : (keys : Keys) (s t : Session) (text : List ℕ) (b : Bool) (e : Entry) (n : ℕ) (bytes : List ℕ) →
-    s.refused ≡ false → b ≡ is_some s.run → parsed_line b text ≡ Ok e → n ≡ s.lines + 1 →
+    s.refused ≡ false → b ≡ is_some s.run → parsed_line [] b text ≡ Ok e → n ≡ s.lines + 1 →
     Leaves (after_entry whole keys 64 (record (session_of s) { lines = n }) e []) t bytes →
     Leaves (after_line whole keys 64 (session_of s) text []) t bytes
 line_entered keys s t text b e n bytes going booted is count leaves =
@@ -60,7 +60,7 @@ line_entered keys s t text b e n bytes going booted is count leaves =
 
 -- a line that is refused
 said_refused : (keys : Keys) (s t : Session) (text : List ℕ) (b : Bool) (fault : script.ScriptFault) (n : ℕ) (bytes : List ℕ) →
-    s.refused ≡ false → b ≡ is_some s.run → parsed_line b text ≡ Err fault → n ≡ s.lines + 1 →
+    s.refused ≡ false → b ≡ is_some s.run → parsed_line [] b text ≡ Err fault → n ≡ s.lines + 1 →
     t ≡ record s { lines = n; refused = true } → bytes ≡ line (fault_text n fault) → RunIsKept s.run →
     Leaves (after_line whole keys 64 (session_of s) text []) t bytes
 said_refused keys s t text b fault n bytes going booted is count state said kept =
@@ -75,7 +75,7 @@ said_refused keys s t text b fault n bytes going booted is count state said kept
 
 -- a line that the reader refuses
 pub line_refused : (keys : Keys) (s t : Session) (text : List ℕ) (b : Bool) (fault : ScriptFault) (n : ℕ) (bytes : List ℕ) →
-    s.refused ≡ false → b ≡ is_some s.run → Refuses fault (parsed_line b text) → n ≡ s.lines + 1 →
+    s.refused ≡ false → b ≡ is_some s.run → Refuses fault (parsed_line [] b text) → n ≡ s.lines + 1 →
     t ≡ record s { lines = n; refused = true } →
     bytes ≡ line (codes "script" ++ spaced n ++ codes " S" ++ decimal (code_seen fault)) → RunIsKept s.run →
     Leaves (after_line whole keys 64 (session_of s) text []) t bytes

@@ -24,7 +24,7 @@ use audit_state::sample::rows_are;
 use audit_table::{copy, put_one};
 use graft_loader::Keys;
 use script_model::{BLOCK_BYTES, BareEvent, NoMemory};
-use script_text::{Entry, ImageBytes, ScriptFault, parse_line};
+use script_text::{Entry, ImageBytes, ScriptFault, no_words, parse_line};
 use std::alloc::Global;
 
 /// One more.
@@ -111,7 +111,7 @@ impl Session {
         }
         let mut bytes = ArrayVec::new();
         let mut entry = Entry::Blank;
-        match parse_line(text, self.run.is_some(), &mut bytes, &mut entry) {
+        match parse_line(no_words(), text, self.run.is_some(), &mut bytes, &mut entry) {
             Err(fault) => self.refuse(fault_code(fault), out),
             Ok(()) => self.run_entry(alloc, keys, &entry, &bytes, out),
         }

@@ -92,12 +92,12 @@ module _ (b : Build) (keys : Keys) (size : ℕ) (sees : SeesFailures b.meaning) 
   line_writes s text io jo h =
       either_writes s.refused (silent s io)
       (after_parse b keys size (record s { lines = suc s.lines })
-      (parsed_line (is_some s.kernel) text) io)
+      (parsed_line b.words (is_some s.kernel) text) io)
       (silent s jo)
       (after_parse b keys size (record s { lines = suc s.lines })
-      (parsed_line (is_some s.kernel) text) jo)
+      (parsed_line b.words (is_some s.kernel) text) jo)
       (record { session = refl; bytes = refl; notes = refl })
-      (parse_writes (record s { lines = suc s.lines }) (parsed_line (is_some s.kernel) text) io jo
+      (parse_writes (record s { lines = suc s.lines }) (parsed_line b.words (is_some s.kernel) text) io jo
       h)
 
   -- ---- lines

@@ -1,12 +1,14 @@
 //! A program over a table of calls of one's own that runs the script of its standard input, over the
-//! sample disk: letters between processes, and a graft that posts a letter and is dropped.
+//! sample disk: letters between processes, and a graft that posts a letter and is dropped. Its
+//! scripts have two words of their own, `post` and `take`, beside the fixed ones.
 #![tactic(auto)]
 
-ghost use Rattle.std.specs.Prelude.{map};
+ghost use Rattle.std.specs.Prelude.{◌≡◌, map};
 ghost use Rattle.vino_top.specs.Bounds.{IsStock};
 ghost use Rattle.vino_top.specs.Does.{RunAnswers};
-ghost use Rattle.vino_top.specs.Run.{place_over, devices};
-ghost use Rattle.mailbox_script.specs.Office.{office};
+ghost use Rattle.vino_top.specs.Run.{place_with, devices};
+ghost use Rattle.script_text.specs.Syntax.{words_seen};
+ghost use Rattle.mailbox_script.specs.Office.{office, office_words};
 
 use call_pieces::{Beside, Plain};
 use graft_points::{
@@ -17,7 +19,7 @@ use mem_disk::{Disk, MemDisk, Sink, Source};
 use real_edge::{StreamSink, StreamSource};
 use std::alloc::{AllocError, Global};
 use std::process::ExitCode;
-use vino_top::{Keys, run_script};
+use vino_top::{CallName, Keys, OwnWord, run_script_with};
 
 /// The calls of this kernel: letters, beside the plain calls.
 type OfficeCalls = Beside<Mailboxes, Plain>;
@@ -58,8 +60,25 @@ fn run_stock<D: Disk>(rt: &HostRuntime, disk: &mut D) -> Result<u8, AllocError> 
     Ok(run_office(alloc, &KEYS, &mut source, &mut sink, disk, shelf))
 }
 
-/// Runs a script in a kernel over these calls. What it writes, and its status, are those of the
-/// outcome that is defined over the meaning of these calls.
+/// The words of letters: `post p q x` posts the word x into the mailbox of process q, and
+/// `take p 0` takes the letter from p's own.
+fn letter_words() -> [OwnWord<'static>; 2]
+    ensures { words_seen result ≡ office_words }
+{
+    [
+        OwnWord {
+            name: b"post".as_slice(),
+            call: CallName::Poke,
+        },
+        OwnWord {
+            name: b"take".as_slice(),
+            call: CallName::Peek,
+        },
+    ]
+}
+
+/// Runs a script in a kernel over these calls, with these words. What it writes, and its status,
+/// are those of the outcome that is defined over the meaning of these calls.
 fn run_office<B: Policy, S: Source, K: Sink, D: Disk>(
     alloc: Global,
     keys: &Keys,
@@ -69,9 +88,10 @@ fn run_office<B: Policy, S: Source, K: Sink, D: Disk>(
     shelf: Vec<B>,
 ) -> u8
     requires { IsStock (map B.seen shelf.items) }
-    ensures { RunAnswers (place_over office keys.now (D.seen disk.old).size)
+    ensures { RunAnswers (place_with office_words office keys.now (D.seen disk.old).size)
         (devices (S.seen src.old) (K.seen out.old) (D.seen disk.old))
         (devices (S.seen src.new) (K.seen out.new) (D.seen disk.new)) result }
 {
-    run_script::<OfficeCalls, B, S, K, D>(alloc, keys, src, out, disk, shelf)
+    let words = letter_words();
+    run_script_with::<OfficeCalls, B, S, K, D>(alloc, keys, words.as_slice(), src, out, disk, shelf)
 }

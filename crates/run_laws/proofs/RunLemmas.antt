@@ -50,7 +50,7 @@ module _ (b : Build) (keys : Keys) (size : ℕ) (laws : Laws b.meaning) (callabl
   InSession l notes blocks (Some k) = I l notes k blocks
 
   abbrev line_moves : Session → List ℕ → List Bool → List Move
-  line_moves s text io = line_shows (event_moves b.meaning) s text io
+  line_moves s text io = line_shows (event_moves b.meaning) b.words s text io
 
   none_moved : (s : Session) (x : Option Kernel) (io : List Bool) →
       event_in_shows (event_moves b.meaning) s x None io ≡ []
@@ -59,7 +59,7 @@ module _ (b : Build) (keys : Keys) (size : ℕ) (laws : Laws b.meaning) (callabl
 
   -- a line without moves and notes
   quiet_line : (l : List Move) (notes : List Note) (s : Session) (text : List ℕ) (io : List Bool) (w : Written) →
-      line_event s text ≡ None → w.notes ≡ [] → InSession l notes w.session.blocks w.session.kernel →
+      line_event b.words s text ≡ None → w.notes ≡ [] → InSession l notes w.session.blocks w.session.kernel →
       InSession (l ++ line_moves s text io) (notes ++ w.notes) w.session.blocks w.session.kernel
   quiet_line l notes s text io w says none h =
       subst (λ x. InSession (l ++ x) (notes ++ w.notes) w.session.blocks w.session.kernel)
@@ -93,7 +93,7 @@ module _ (b : Build) (keys : Keys) (size : ℕ) (laws : Laws b.meaning) (callabl
           let before = subst (InSession l notes s.blocks) is h in
           let done = kept.events l notes k s.blocks (suc s.events) e io (sound_at k is) before in
           subst (λ y. InSession (l ++ y) (notes ++ w.notes) w.session.blocks w.session.kernel)
-          (sym (ap (λ y. event_in_shows (event_moves b.meaning) s y (line_event s text) io) is
+          (sym (ap (λ y. event_in_shows (event_moves b.meaning) s y (line_event b.words s text) io) is
           ∙ ap (λ y. event_in_shows (event_moves b.meaning) s (Some k) y io) says))
           (subst (λ ns. InSession (l ++ x) (notes ++ ns) w.session.blocks w.session.kernel) (sym told)
           (subst (λ y. InSession (l ++ x) (notes ++ u.notes) w.session.blocks y) (sym kernel)

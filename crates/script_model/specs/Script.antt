@@ -2,7 +2,7 @@
 -- the forms of their words (`Command`, `CallName`, `Form`).
 use Rattle.std.specs.Prelude.{ℕ, Bool, true, false, cond, not, ◌&&◌, ◌||◌, ◌==◌, nat_lt, nat_le}
 use Rattle.std.specs.Prelude.{List, [], ◌∷◌, ◌++◌, length, slice_index, Option, None, Some, Result}
-use Rattle.std.specs.Prelude.{Ok, Err, codes, find, position}
+use Rattle.std.specs.Prelude.{Ok, Err, codes, find, position, option_map}
 use Rattle.std.specs.List.{list_all}
 use Rattle.kernel_data.specs.declared.Kind.{Kind}
 use Rattle.kernel_data.specs.declared.Kind.TheVariants.{Steps, Records, Locks}
@@ -345,9 +345,32 @@ entry_of Command.Raw n last = Ok Raw
 entry_of Command.Image n last = loads_by (slice_index n 0) (hex_word IMAGE_DIGITS last)
 entry_of (Call name) n last = happens_by (slice_index n 0) (call_of name n last)
 
--- the command that a word names
+-- the command of a fixed word
 abbrev pub command_named : List ℕ → Option Command
 command_named word = find (λ c. same_bytes (command_word c) word) all_commands
+
+-- a word that a kernel designer adds to the fixed ones: its name, and the call that it makes. Its
+-- line has the further words of that call.
+pub record OwnWord : Type 0 where
+  pub name : List ℕ
+  pub call : CallName
+
+-- the command of an added word
+abbrev pub own_command : OwnWord → Command
+own_command w = Call w.call
+
+-- the command of a word among the added ones, of which the first counts
+abbrev pub own_named : List OwnWord → List ℕ → Option Command
+own_named own word = option_map own_command (find (λ (w : OwnWord). same_bytes w.name word) own)
+
+-- a command, or else that of an added word
+abbrev pub or_own : List OwnWord → List ℕ → Option Command → Option Command
+or_own own word None = own_named own word
+or_own own word (Some c) = Some c
+
+-- the command of a word: a fixed one, or else one that was added
+abbrev pub command_among : List OwnWord → List ℕ → Option Command
+command_among own word = or_own own word (command_named word)
 
 -- a command by what its words say
 abbrev pub entry_by : Command → Result (List ℕ × List ℕ) ScriptFault → Result Entry ScriptFault
@@ -376,14 +399,15 @@ is_blank (byte ∷ bytes) = byte == 35
 abbrev pub LINE_BYTES : ℕ
 LINE_BYTES = 65536
 
--- what a line says, before or after `boot`, or why it is refused
-abbrev pub parsed_line : Bool → List ℕ → Result Entry ScriptFault
-parsed_line booted text =
+-- what a line says, with these words added to the fixed ones, before or after `boot`, or why it is
+-- refused
+abbrev pub parsed_line : List OwnWord → Bool → List ℕ → Result Entry ScriptFault
+parsed_line own booted text =
     elim (nat_lt LINE_BYTES (length text)) [
       | true ↦ Err TooLong
       | false ↦ elim (is_blank text) [
         | true ↦ Ok Blank
         | false ↦ let words = words_of text in
-            entry_at booted (other_words words) (command_named (first_word words))
+            entry_at booted (other_words words) (command_among own (first_word words))
       ]
     ]

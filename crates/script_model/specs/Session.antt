@@ -19,19 +19,20 @@ use Rattle.kernel_data.specs.Bytes.{spaced}
 use Rattle.script_model.specs.Text.{line, note_lines, row_lines, boot_text}
 use Rattle.kernel_model.specs.ImageLines.{image_answer}
 use Rattle.script_model.specs.Script.{Entry, Blank, Frames, Patience, Grant, Boot, Happens, Loads}
-use Rattle.script_model.specs.Script.{Raw, ScriptFault, fault_number, parsed_line}
+use Rattle.script_model.specs.Script.{Raw, ScriptFault, OwnWord, fault_number, parsed_line}
 
 -- ---- what is run
 
--- what a kernel is built with: the meaning of its system calls, and the highest id that grafts may
--- call
+-- what a kernel is built with: the meaning of its system calls, the highest id that grafts may
+-- call, and the words that are added to the fixed ones of scripts
 pub record Build : Type 0 where
   pub meaning : Meaning
   pub callable : ℕ
+  pub words : List OwnWord
 
--- the whole product: all calls, and the whole callable list
+-- the whole product: all calls, the whole callable list, and no words but the fixed ones
 abbrev pub whole : Build
-whole = record { meaning = all_calls; callable = LAST_CALLABLE }
+whole = record { meaning = all_calls; callable = LAST_CALLABLE; words = [] }
 
 -- what set-up lines set
 pub record Setup : Type 0 where
@@ -199,7 +200,7 @@ module _ (b : Build) (keys : Keys) (size : ℕ) where
       elim s.refused [
         | true ↦ silent s io
         | false ↦ after_parse (record s { lines = suc s.lines })
-            (parsed_line (is_some s.kernel) text) io
+            (parsed_line b.words (is_some s.kernel) text) io
       ]
 
   -- a session after these lines in order, and all that they write; one list says what the disk

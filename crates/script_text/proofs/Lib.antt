@@ -5,3 +5,4 @@ mod Spelling
 mod Plain
 mod Newlines
 mod Numbers
+mod OwnWordLemmas

@@ -1,3 +1,4 @@
 pub mod Syntax
 pub mod Words
 pub mod Answers
+pub mod OwnWords

@@ -1,16 +1,18 @@
 //! The commands of a script: their words, their places and the forms of their further words.
 //!
 //! The word of a command is compared where it stands in its line, so that its end isn't looked for
-//! before.
+//! before. Only where it is no fixed word, it is looked up among those that were added.
 
-ghost use Rattle.std.specs.Prelude.{◌≡◌, ◌≤◌, ◌∷◌, length, cond, Some, None};
+ghost use Rattle.std.specs.Prelude.{◌≡◌, ◌≤◌, [], ◌∷◌, length, cond, Some, None, option_map};
 ghost use Rattle.script_model.specs.World.{same_bytes};
 ghost use Rattle.script_model.specs.declared.Command.TheVariants as command_is;
-ghost use Rattle.script_model.specs.Script.{command_named, command_word, call_word, is_setup, call_forms, forms_of};
-ghost use Rattle.script_text.specs.Syntax.{IsSyntax, FindsSyntax};
+ghost use Rattle.script_model.specs.Script.{command_named, command_among, own_named, command_word};
+ghost use Rattle.script_model.specs.Script.{call_word, is_setup, call_forms, forms_of};
+ghost use Rattle.script_text.specs.Syntax.{words_seen, IsSyntax, FindsSyntax, FindsSyntaxAt};
 ghost use Rattle.script_text.specs.Words.{word_length, front_word};
 
 use crate::digits::ends_at;
+use crate::words::word_end;
 use script_model::{CallName, Command, Form};
 
 /// Whether the word that a text begins with is this one. It is always inlined: an ending is a
@@ -214,13 +216,84 @@ fn named_after(first: u8, rest: &[u8]) -> Option<Syntax>
     }
 }
 
-/// The command of the word that a text begins with.
-pub(crate) fn named(text: &[u8]) -> Option<Syntax>
+/// The command of the fixed word that a text begins with.
+fn fixed(text: &[u8]) -> Option<Syntax>
     ensures { FindsSyntax (command_named (front_word text.now)) result }
 {
     match text.split_first() {
         Some((first, rest)) => named_after(*first, rest),
         None => None,
+    }
+}
+
+/// A word that a kernel designer adds to the fixed ones of scripts. A fixed word keeps its meaning,
+/// and of several words with one name the first counts.
+#[derive(Clone, Copy)]
+pub struct OwnWord<'a> {
+    /// The word itself. It is found only where it has no space and doesn't begin with `#`.
+    pub name: &'a [u8],
+    /// The call that it makes. Its line has the further words of this call.
+    pub call: CallName,
+}
+
+/// No words but the fixed ones.
+pub fn no_words() -> &'static [OwnWord<'static>]
+    ensures { result.now ≡ [] }
+{
+    let none: &'static [OwnWord<'static>] = &[];
+    none
+}
+
+/// The call of a word among these.
+fn own_call(own: &[OwnWord<'_>], word: &[u8]) -> Option<CallName>
+    ensures { option_map (λ name. command_is.Call name) result
+        ≡ own_named (words_seen own.now) word.now }
+{
+    let Some((first, others)) = own.split_first() else {
+        return None;
+    };
+    if first.name == word {
+        return Some(first.call);
+    }
+    own_call(others, word)
+}
+
+/// The syntax of a call, whose word has so many bytes.
+fn syntax_of_call(name: CallName, size: usize) -> Syntax
+    ensures command { result.command ≡ command_is.Call name }
+    ensures size { result.size ≡ size }
+    ensures forms { result.forms.now ≡ forms_of (command_is.Call name) }
+    ensures few { length result.forms.now ≤ 5 }
+    ensures setup { result.sets_up ≡ is_setup (command_is.Call name) }
+{
+    Syntax {
+        command: Command::Call(name),
+        size,
+        forms: forms_of_call(name),
+        sets_up: false,
+    }
+}
+
+/// The command of the word that a text begins with, if it is one of these.
+#[inline(never)]
+fn named_own(own: &[OwnWord<'_>], text: &[u8]) -> Option<Syntax>
+    ensures { FindsSyntaxAt text.now (own_named (words_seen own.now) (front_word text.now)) result }
+{
+    let end = word_end(text);
+    match own_call(own, &text[..end]) {
+        Some(name) => Some(syntax_of_call(name, end)),
+        None => None,
+    }
+}
+
+/// The command of the word that a text begins with: a fixed word, or else one of these.
+pub(crate) fn named(own: &[OwnWord<'_>], text: &[u8]) -> Option<Syntax>
+    ensures { FindsSyntaxAt text.now
+        (command_among (words_seen own.now) (front_word text.now)) result }
+{
+    match fixed(text) {
+        Some(syntax) => Some(syntax),
+        None => named_own(own, text),
     }
 }
 

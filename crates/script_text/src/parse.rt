@@ -9,8 +9,9 @@ ghost use Rattle.script_model.specs.Script.{WRITE_DIGITS, IMAGE_DIGITS, amount_a
 ghost use Rattle.script_model.specs.Script.{open_by, write_by, serve_by, stream_write_by, call_of};
 ghost use Rattle.script_model.specs.Script.{happens_by, loads_by, entry_of, is_blank, parsed_line};
 ghost use Rattle.script_text.specs.Answers.{IsParsed, SetsWithin, with_entry};
+ghost use Rattle.script_text.specs.Syntax.{words_seen};
 
-use crate::commands::named;
+use crate::commands::{OwnWord, named};
 use crate::digits::name;
 use crate::hexes::{loaded, written};
 use crate::image_bytes::ImageBytes;
@@ -285,21 +286,23 @@ fn entry_said<'a>(
     }
 }
 
-/// What a line says, before or after `boot`, or why it is refused.
+/// What a line says, with these words added, before or after `boot`, or why it is refused.
 fn line_said<'a>(
+    own: &[OwnWord<'_>],
     line: &'a [u8],
     booted: bool,
     bytes: &mut ArrayVec<u8, BLOCK_BYTES>,
 ) -> Result<Entry<'a>, ScriptFault>
     requires { length line.now ≤ 65536 }
-    ensures answer { IsParsed result bytes.new.items (parsed_line booted line.now) }
+    ensures answer { IsParsed result bytes.new.items
+        (parsed_line (words_seen own.now) booted line.now) }
     ensures limits { SetsWithin result }
 {
     bytes.clear();
     if is_blank_line(line) {
         return Ok(Entry::Blank);
     }
-    let Some(syntax) = named(line) else {
+    let Some(syntax) = named(own, line) else {
         return Err(ScriptFault::UnknownCommand);
     };
     if syntax.sets_up == booted {
@@ -317,12 +320,14 @@ fn line_said<'a>(
 }
 
 /// What a line says, before or after `boot`, which is put where it is lent, so that it isn't moved;
-/// or why it is refused. The line stands without its newline.
+/// or why it is refused. The line stands without its newline. The words `own` are added to the
+/// fixed ones, and are looked at only where the first word of the line isn't fixed.
 ///
 /// The name of an `open` and the bytes of a `write`, a `swrite` and a `serve` go to `bytes`, which
 /// has none for other lines.
 /// No memory is taken: the bytes of an image are decoded later.
 pub fn parse_line<'a>(
+    own: &[OwnWord<'_>],
     line: &'a [u8],
     booted: bool,
     bytes: &mut ArrayVec<u8, BLOCK_BYTES>,
@@ -330,10 +335,10 @@ pub fn parse_line<'a>(
 ) -> Result<(), ScriptFault>
     requires { length line.now ≤ 65536 }
     ensures answer { IsParsed (with_entry result entry.new) bytes.new.items
-        (parsed_line booted line.now) }
+        (parsed_line (words_seen own.now) booted line.now) }
     ensures limits { SetsWithin (with_entry result entry.new) }
     ensures kept { OnErr result (entry.new ≡ entry.old) }
 {
-    *entry = line_said(line, booted, bytes)?;
+    *entry = line_said(own, line, booted, bytes)?;
     Ok(())
 }

@@ -40,7 +40,7 @@ fn first_space(text: &[u8]) -> Option<usize>
 }
 
 /// Where the first word of a text ends.
-fn word_end(text: &[u8]) -> usize
+pub(crate) fn word_end(text: &[u8]) -> usize
     ensures value { result ≡ word_length text.now }
     ensures within { result ≤ length text.now }
 {

@@ -25,18 +25,18 @@ use Rattle.session_laws.proofs.SetupLemmas.{IsRight, SaysRight, line_right}
 
 -- what a line of a session does, which leaves this
 pub data LineDoes (b : Build) (s : Session) (text : List ℕ) (io : List Bool) (w : Written) : Type 0 where
-  Happened : (k : Kernel) (e : Event) → s.kernel ≡ Some k → line_event s text ≡ Some e →
+  Happened : (k : Kernel) (e : Event) → s.kernel ≡ Some k → line_event b.words s text ≡ Some e →
       w.session.kernel ≡ Some (event b.meaning k s.blocks (suc s.events) e io).kernel →
       w.session.blocks ≡ (event b.meaning k s.blocks (suc s.events) e io).blocks →
       w.session.events ≡ suc s.events →
       w.notes ≡ (event b.meaning k s.blocks (suc s.events) e io).notes → LineDoes b s text io w
-  Loaded : (k : Kernel) (slot : ℕ) (i : Image) → s.kernel ≡ Some k → line_event s text ≡ None →
+  Loaded : (k : Kernel) (slot : ℕ) (i : Image) → s.kernel ≡ Some k → line_event b.words s text ≡ None →
       k.images slot ≡ None → w.session.kernel ≡ Some (add_image slot i k) →
       w.session.blocks ≡ s.blocks → w.session.events ≡ suc s.events → w.notes ≡ [] → LineDoes b s text io w
-  Began : (v : World) → s.kernel ≡ None → line_event s text ≡ None →
+  Began : (v : World) → s.kernel ≡ None → line_event b.words s text ≡ None →
       w.session.kernel ≡ Some (opening_kernel v) → w.session.blocks ≡ s.blocks →
       w.session.events ≡ s.events → w.notes ≡ [] → LineDoes b s text io w
-  Stayed : line_event s text ≡ None → w.session.kernel ≡ s.kernel → w.session.blocks ≡ s.blocks →
+  Stayed : line_event b.words s text ≡ None → w.session.kernel ≡ s.kernel → w.session.blocks ≡ s.blocks →
       s.events ≤ w.session.events → w.notes ≡ [] → LineDoes b s text io w
 
 -- an image line leaves the kernel, or loads an image in a free slot
@@ -85,14 +85,14 @@ module _ (b : Build) (keys : Keys) (size : ℕ) (s : Session) (text : List ℕ) 
   abbrev next : Session
   next = record s { lines = suc s.lines }
 
-  stays : (w : Written) → line_event s text ≡ None → w.session.kernel ≡ s.kernel → w.session.blocks ≡ s.blocks →
+  stays : (w : Written) → line_event b.words s text ≡ None → w.session.kernel ≡ s.kernel → w.session.blocks ≡ s.blocks →
       s.events ≤ w.session.events → w.notes ≡ [] → Does w
   stays w says kernel blocks events notes = Stayed says kernel blocks events notes
 
   no_less : s.events ≤ s.events
   no_less = omega arith
 
-  boot_does : s.kernel ≡ None → line_event s text ≡ None → Does (boots size b.callable next io)
+  boot_does : s.kernel ≡ None → line_event b.words s text ≡ None → Does (boots size b.callable next io)
   boot_does none says = by_fault (disk_fails io 0)
     where
       rows : List (Option FileRow)
@@ -107,7 +107,8 @@ module _ (b : Build) (keys : Keys) (size : ℕ) (s : Session) (text : List ℕ) 
       by_fault false = Began (world_of s.setup size b.callable rows) none says refl refl refl refl
 
   -- an image line of a kernel
-  image_does : (k : Kernel) (slot : ℕ) (x : Result Image LoadFault) → s.kernel ≡ Some k → line_event s text ≡ None →
+  image_does : (k : Kernel) (slot : ℕ) (x : Result Image LoadFault) → s.kernel ≡ Some k →
+      line_event b.words s text ≡ None →
       Does (image_line_run next slot x k io)
   image_does k slot x is says = elim (image_cases slot x k) [
     | inl same ↦ stays (image_line_run next slot x k io) says (ap (λ (y : Kernel). Some y) same ∙ sym is) refl
@@ -116,7 +117,7 @@ module _ (b : Build) (keys : Keys) (size : ℕ) (s : Session) (text : List ℕ) 
   ]
 
   -- an entry that needs a kernel, by the kernel
-  running_does : (e : Entry) (x : Option Kernel) → s.kernel ≡ x → line_event s text ≡ event_by x (Ok e) →
+  running_does : (e : Entry) (x : Option Kernel) → s.kernel ≡ x → line_event b.words s text ≡ event_by x (Ok e) →
       Does (running_in b keys size next e x io)
   running_does e None is says = stays (silent next io) says refl refl no_less refl
   running_does (Happens e) (Some k) is says = Happened k e is says refl refl refl refl
@@ -129,7 +130,7 @@ module _ (b : Build) (keys : Keys) (size : ℕ) (s : Session) (text : List ℕ) 
   running_does (Grant n) (Some k) is says = stays (silent next io) says refl refl no_less refl
   running_does Boot (Some k) is says = stays (silent next io) says refl refl no_less refl
 
-  needs_kernel : (e : Entry) → line_event s text ≡ event_by s.kernel (Ok e) →
+  needs_kernel : (e : Entry) → line_event b.words s text ≡ event_by s.kernel (Ok e) →
       Does (running_in b keys size next e s.kernel io)
   needs_kernel e says = running_does e s.kernel refl says
 
@@ -141,7 +142,7 @@ module _ (b : Build) (keys : Keys) (size : ℕ) (s : Session) (text : List ℕ) 
   no_kernel None e = refl
   no_kernel (Some k) e = absurd cc
 
-  entry_does : (e : Entry) → IsRight (is_some s.kernel) e → line_event s text ≡ event_by s.kernel (Ok e) →
+  entry_does : (e : Entry) → IsRight (is_some s.kernel) e → line_event b.words s text ≡ event_by s.kernel (Ok e) →
       Does (after_entry b keys size next e io)
   entry_does Blank right says =
       stays (after_entry b keys size next Blank io) (says ∙ none_said s.kernel Blank refl) refl refl no_less refl
@@ -160,7 +161,7 @@ module _ (b : Build) (keys : Keys) (size : ℕ) (s : Session) (text : List ℕ) 
   entry_does Raw right says = needs_kernel Raw says
 
   parse_does : (x : Result Entry ScriptFault) → SaysRight (is_some s.kernel) x →
-      line_event s text ≡ event_by s.kernel x →
+      line_event b.words s text ≡ event_by s.kernel x →
       Does (after_parse b keys size next x io)
   parse_does (Err fault) right says =
       stays (after_parse b keys size next (Err fault) io) (says ∙ nothing s.kernel) refl refl no_less refl
@@ -171,7 +172,7 @@ module _ (b : Build) (keys : Keys) (size : ℕ) (s : Session) (text : List ℕ) 
   parse_does (Ok e) right says = entry_does e right says
 
   -- the event of the line where none was refused
-  said : (x : Option Kernel) → event_after_boot x text ≡ event_by x (parsed_line (is_some x) text)
+  said : (x : Option Kernel) → event_after_boot b.words x text ≡ event_by x (parsed_line b.words (is_some x) text)
   said None = refl
   said (Some k) = refl
 
@@ -179,15 +180,16 @@ module _ (b : Build) (keys : Keys) (size : ℕ) (s : Session) (text : List ℕ) 
   line_does = by_refused s.refused refl
     where
       event_if : Bool → Option Event
-      event_if refused = elim refused as (λ _. Option Event) [ true ↦ None | false ↦ event_after_boot s.kernel text ]
+      event_if refused =
+          elim refused as (λ _. Option Event) [ true ↦ None | false ↦ event_after_boot b.words s.kernel text ]
 
       by_refused : (refused : Bool) → s.refused ≡ refused → Does (elim refused as (λ _. Written) [
         | true ↦ silent s io
-        | false ↦ after_parse b keys size next (parsed_line (is_some s.kernel) text) io
+        | false ↦ after_parse b keys size next (parsed_line b.words (is_some s.kernel) text) io
       ])
       by_refused true e = stays (silent s io) (ap event_if e) refl refl no_less refl
       by_refused false e =
-          parse_does (parsed_line (is_some s.kernel) text) (line_right (is_some s.kernel) text)
+          parse_does (parsed_line b.words (is_some s.kernel) text) (line_right b.words (is_some s.kernel) text)
           (ap event_if e ∙ said s.kernel)
 
 -- ---- numbers

@@ -122,7 +122,7 @@ module _ (Q : ℕ → Kernel → Type 0) where
 
           by_refused : (refused : Bool) → HoldsIn (elim refused as (λ _. Written) [
             | true ↦ silent s io
-            | false ↦ after_parse b keys size next (parsed_line (is_some s.kernel) text) io
+            | false ↦ after_parse b keys size next (parsed_line b.words (is_some s.kernel) text) io
           ]).session
           by_refused true = h
-          by_refused false = by_parse (parsed_line (is_some s.kernel) text)
+          by_refused false = by_parse (parsed_line b.words (is_some s.kernel) text)

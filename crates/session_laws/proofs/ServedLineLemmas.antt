@@ -49,7 +49,7 @@ module _ (b : Build) (keys : Keys) (size : ℕ) (serves : MeansServe b.meaning) 
       }
 
   abbrev line_shown : Session → List ℕ → List Bool → Shown
-  line_shown s text io = in_shown s s.kernel (line_event s text) io
+  line_shown s text io = in_shown s s.kernel (line_event b.words s text) io
 
   abbrev lines_shown : Session → List (List ℕ) → List (List Bool) → Shown
   lines_shown s texts ios =
@@ -70,11 +70,12 @@ module _ (b : Build) (keys : Keys) (size : ℕ) (serves : MeansServe b.meaning) 
 
   -- what a line shows by what it does
   some_shown : (s : Session) (text : List ℕ) (io : List Bool) (k : Kernel) (e : Event) → s.kernel ≡ Some k →
-      line_event s text ≡ Some e → line_shown s text io ≡ event_shown b.meaning (suc s.events) e (begins_in s k io)
+      line_event b.words s text ≡ Some e →
+      line_shown s text io ≡ event_shown b.meaning (suc s.events) e (begins_in s k io)
   some_shown s text io k e is says =
-      ap (λ x. in_shown s x (line_event s text) io) is ∙ ap (λ y. in_shown s (Some k) y io) says
+      ap (λ x. in_shown s x (line_event b.words s text) io) is ∙ ap (λ y. in_shown s (Some k) y io) says
 
-  no_event_shown : (s : Session) (text : List ℕ) (io : List Bool) → line_event s text ≡ None →
+  no_event_shown : (s : Session) (text : List ℕ) (io : List Bool) → line_event b.words s text ≡ None →
       line_shown s text io ≡ nothing
   no_event_shown s text io says = ap (λ y. in_shown s s.kernel y io) says ∙ none_shown s s.kernel io
 
@@ -86,7 +87,7 @@ module _ (b : Build) (keys : Keys) (size : ℕ) (serves : MeansServe b.meaning) 
 
     -- a line that shows nothing and writes no note
     quiet_line : (s : Session) (text : List ℕ) (io : List Bool) (l : Shown) (notes : List Note) (w : Written) →
-        line_event s text ≡ None → w.notes ≡ [] → At l notes w.session →
+        line_event b.words s text ≡ None → w.notes ≡ [] → At l notes w.session →
         At (and_then l (line_shown s text io)) (notes ++ w.notes) w.session
     quiet_line s text io l notes w says none h =
         subst (λ x. At (and_then l x) (notes ++ w.notes) w.session) (sym (no_event_shown s text io says))
@@ -96,7 +97,7 @@ module _ (b : Build) (keys : Keys) (size : ℕ) (serves : MeansServe b.meaning) 
 
     -- a line by its event, where that keeps it
     any_line : (s : Session) (text : List ℕ) (io : List Bool) (l : Shown) (notes : List Note) → At l notes s →
-        ((k : Kernel) (e : Event) → s.kernel ≡ Some k → line_event s text ≡ Some e →
+        ((k : Kernel) (e : Event) → s.kernel ≡ Some k → line_event b.words s text ≡ Some e →
         (after_line b keys size s text io).session.events ≡ suc s.events → behind notes Q l k.call [] →
         behind notes Q (and_then l (event_shown b.meaning (suc s.events) e (begins_in s k io)))
         (event b.meaning k s.blocks (suc s.events) e io).kernel.call
@@ -195,7 +196,7 @@ module _ (b : Build) (keys : Keys) (size : ℕ) (serves : MeansServe b.meaning) 
 
     -- the line of the `serve` itself
     serve_line : (s : Session) (text : List ℕ) (io : List Bool) (l : Shown) (notes : List Note) →
-        line_event s text ≡ Some (Sys p (Serve port bytes)) →
+        line_event b.words s text ≡ Some (Sys p (Serve port bytes)) →
         IsFresh (suc s.events) l (calls_in s.kernel) notes →
         IsServed (suc s.events) p (and_then l (line_shown s text io))
         (calls_in (after_line b keys size s text io).session.kernel)
@@ -220,7 +221,7 @@ module _ (b : Build) (keys : Keys) (size : ℕ) (serves : MeansServe b.meaning) 
         some_event e f h = cc
 
     -- it has the next number
-    serve_counts : (s : Session) (text : List ℕ) (io : List Bool) (e : Event) → line_event s text ≡ Some e →
+    serve_counts : (s : Session) (text : List ℕ) (io : List Bool) (e : Event) → line_event b.words s text ≡ Some e →
         (after_line b keys size s text io).session.events ≡ suc s.events
     serve_counts s text io e says = by_line (line_does b keys size s text io)
       where
@@ -236,7 +237,7 @@ module _ (b : Build) (keys : Keys) (size : ℕ) (serves : MeansServe b.meaning) 
 
     with_serve : (n : ℕ) (before after : List (List ℕ)) (text : List ℕ) (ios : List (List Bool)) (s : Session)
         (l : Shown) (notes : List Note) → n ≡ suc (session_after b keys size s before ios).events →
-        line_event (session_after b keys size s before ios) text ≡ Some (Sys p (Serve port bytes)) →
+        line_event b.words (session_after b keys size s before ios) text ≡ Some (Sys p (Serve port bytes)) →
         IsFresh n l (calls_in s.kernel) notes →
         IsServed n p (and_then l (lines_shown s (before ++ text ∷ after) ios))
         (calls_in (session_after b keys size s (before ++ text ∷ after) ios).kernel)

@@ -134,11 +134,12 @@ module _ (b : Build) (keys : Keys) (size : ℕ) where
 
         by_refused : (refused : Bool) → Stands (elim refused as (λ _. Written) [
           | true ↦ silent s io
-          | false ↦ after_parse b keys size next (parsed_line (is_some s.kernel) text) io
+          | false ↦ after_parse b keys size next (parsed_line b.words (is_some s.kernel) text) io
         ]).session
         by_refused true = stands_up s none h
         by_refused false =
-            parse_stands next (parsed_line (is_some s.kernel) text) io none (line_right (is_some s.kernel) text)
+            parse_stands next (parsed_line b.words (is_some s.kernel) text) io none
+            (line_right b.words (is_some s.kernel) text)
             (stands_up next none (record { least = h.least; most = h.most; blocks = h.blocks }))
 
     -- ---- all lines

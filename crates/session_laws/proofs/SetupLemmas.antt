@@ -9,9 +9,9 @@ use Rattle.script_model.specs.declared.SysCall.{SysCall}
 use Rattle.script_model.specs.Bytes.{hex_word}
 use Rattle.script_model.specs.Script.{Entry, Blank, Frames, Patience, Boot, ScriptFault, BadNumber}
 use Rattle.script_model.specs.Script.{LINE_BYTES, IMAGE_DIGITS, is_blank, is_setup, same_bool}
-use Rattle.script_model.specs.Script.{call_of, words_of, first_word, other_words, command_named}
+use Rattle.script_model.specs.Script.{call_of, words_of, first_word, other_words, command_among}
 use Rattle.script_model.specs.Script.{words_said, forms_of, happens_by, loads_by, entry_of}
-use Rattle.script_model.specs.Script.{entry_by, entry_at, parsed_line}
+use Rattle.script_model.specs.Script.{entry_by, entry_at, OwnWord, parsed_line}
 
 -- a number of frames is in its range, and a boot stands before boot
 abbrev pub IsRight : (booted : Bool) → Entry → Type 0
@@ -86,8 +86,8 @@ words_right booted words (Some c) = by_place (same_bool (is_setup c) booted) ref
     by_place true e = tt
     by_place false e = entry_right booted c (words_said [] [] (forms_of c) words) e
 
-pub line_right : (booted : Bool) (text : List ℕ) → SaysRight booted (parsed_line booted text)
-line_right booted text = by_length (nat_lt LINE_BYTES (length text))
+pub line_right : (own : List OwnWord) (booted : Bool) (text : List ℕ) → SaysRight booted (parsed_line own booted text)
+line_right own booted text = by_length (nat_lt LINE_BYTES (length text))
   where
     words : List (List ℕ)
     words = words_of text
@@ -96,16 +96,16 @@ line_right booted text = by_length (nat_lt LINE_BYTES (length text))
         SaysRight booted
         (elim b as (λ _. Result Entry ScriptFault) [
           | true ↦ Ok Blank
-          | false ↦ entry_at booted (other_words words) (command_named (first_word words))
+          | false ↦ entry_at booted (other_words words) (command_among own (first_word words))
         ])
     by_words true = tt
-    by_words false = words_right booted (other_words words) (command_named (first_word words))
+    by_words false = words_right booted (other_words words) (command_among own (first_word words))
 
     by_length : (b : Bool) → SaysRight booted (elim b as (λ _. Result Entry ScriptFault) [
       | true ↦ Err ScriptFault.TooLong
       | false ↦ elim (is_blank text) as (λ _. Result Entry ScriptFault) [
         | true ↦ Ok Blank
-        | false ↦ entry_at booted (other_words words) (command_named (first_word words))
+        | false ↦ entry_at booted (other_words words) (command_among own (first_word words))
       ]
     ])
     by_length true = tt

@@ -18,8 +18,8 @@ use Rattle.script_model.specs.Laws.{Laws}
 use Rattle.script_model.specs.Script.{Entry, Blank, Frames, Patience, Grant, Boot, Happens, Loads}
 use Rattle.script_model.specs.Script.{Raw, ScriptFault, LINE_BYTES, IMAGE_DIGITS, is_blank}
 use Rattle.script_model.specs.Script.{is_setup, same_bool, call_of, words_of, first_word}
-use Rattle.script_model.specs.Script.{other_words, command_named, words_said, forms_of, happens_by}
-use Rattle.script_model.specs.Script.{loads_by, entry_of, entry_by, entry_at, parsed_line}
+use Rattle.script_model.specs.Script.{other_words, command_among, words_said, forms_of, happens_by}
+use Rattle.script_model.specs.Script.{loads_by, entry_of, entry_by, entry_at, OwnWord, parsed_line}
 use Rattle.script_model.specs.Session.{Build, Session, Written, silent}
 use Rattle.script_model.specs.ImageLines.{image_added, image_answer}
 use Rattle.script_model.specs.Session.{running_in, after_entry, after_parse, after_line, first_io}
@@ -76,24 +76,24 @@ words_no_boot words (Some c) = by_place (is_setup c) refl
     by_place true e = tt
     by_place false e = entry_no_boot c (words_said [] [] (forms_of c) words) e
 
-line_no_boot : (text : List ℕ) → SaysNoBoot (parsed_line true text)
-line_no_boot text = by_length (nat_lt LINE_BYTES (length text))
+line_no_boot : (own : List OwnWord) (text : List ℕ) → SaysNoBoot (parsed_line own true text)
+line_no_boot own text = by_length (nat_lt LINE_BYTES (length text))
   where
     words : List (List ℕ)
     words = words_of text
 
     by_words : (b : Bool) → SaysNoBoot (elim b as (λ _. Result Entry ScriptFault) [
       | true ↦ Ok Blank
-      | false ↦ entry_at true (other_words words) (command_named (first_word words))
+      | false ↦ entry_at true (other_words words) (command_among own (first_word words))
     ])
     by_words true = tt
-    by_words false = words_no_boot (other_words words) (command_named (first_word words))
+    by_words false = words_no_boot (other_words words) (command_among own (first_word words))
 
     by_length : (b : Bool) → SaysNoBoot (elim b as (λ _. Result Entry ScriptFault) [
       | true ↦ Err ScriptFault.TooLong
       | false ↦ elim (is_blank text) as (λ _. Result Entry ScriptFault) [
         | true ↦ Ok Blank
-        | false ↦ entry_at true (other_words words) (command_named (first_word words))
+        | false ↦ entry_at true (other_words words) (command_among own (first_word words))
       ]
     ])
     by_length true = tt
@@ -207,13 +207,13 @@ module _ (b : Build) (keys : Keys) (size : ℕ) (laws : Laws b.meaning) where
 
       by_refused : (refused : Bool) → IsSoundSession b.meaning (elim refused as (λ _. Written) [
         | true ↦ silent s io
-        | false ↦ after_parse b keys size next (parsed_line (is_some s.kernel) text) io
+        | false ↦ after_parse b keys size next (parsed_line b.words (is_some s.kernel) text) io
       ]).session
       by_refused true = h
       by_refused false =
-          parse_sound next (parsed_line (is_some s.kernel) text) io
-          (subst (λ booted. SaysNoBoot (parsed_line booted text)) (sym (ap is_some h.is))
-          (line_no_boot text)) after_next
+          parse_sound next (parsed_line b.words (is_some s.kernel) text) io
+          (subst (λ booted. SaysNoBoot (parsed_line b.words booted text)) (sym (ap is_some h.is))
+          (line_no_boot b.words text)) after_next
 
   lines_sound : (s : Session) (texts : List (List ℕ)) (ios : List (List Bool)) →
       IsSoundSession b.meaning s → IsSoundSession b.meaning (session_after b keys size s texts ios)

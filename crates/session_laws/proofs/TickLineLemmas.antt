@@ -110,7 +110,7 @@ module _ (b : Build) (keys : Keys) (size : ℕ) where
   parse_counts s (Ok e) io right = entry_counts s e io right
 
   line_counts : (s : Session) (text : List ℕ) (io : List Bool) →
-      Counts s (after_line b keys size s text io).session (is_tick_line s text)
+      Counts s (after_line b keys size s text io).session (is_tick_line b.words s text)
   line_counts s text io = by_refused s.refused
     where
       next : Session
@@ -119,22 +119,24 @@ module _ (b : Build) (keys : Keys) (size : ℕ) where
       by_refused : (refused : Bool) →
           Counts s (elim refused as (λ _. Written) [
             | true ↦ silent s io
-            | false ↦ after_parse b keys size next (parsed_line (is_some s.kernel) text) io
+            | false ↦ after_parse b keys size next (parsed_line b.words (is_some s.kernel) text) io
           ]).session
           (elim refused as
           (λ _. Bool) [
             | true ↦ false
-            | false ↦ says_tick (parsed_line (is_some s.kernel) text) && is_some s.kernel
+            | false ↦ says_tick (parsed_line b.words (is_some s.kernel) text) && is_some s.kernel
           ])
       by_refused true = none_more (clock_in s.kernel)
-      by_refused false = parse_counts next (parsed_line (is_some s.kernel) text) io (line_right (is_some s.kernel) text)
+      by_refused false =
+          parse_counts next (parsed_line b.words (is_some s.kernel) text) io
+          (line_right b.words (is_some s.kernel) text)
 
   lines_count : (s : Session) (texts : List (List ℕ)) (ios : List (List Bool)) →
       clock_in (session_after b keys size s texts ios).kernel ≡ tick_lines b keys size s texts ios + clock_in s.kernel
   lines_count s [] ios = none_more (clock_in s.kernel)
   lines_count s (text ∷ texts) ios =
       let u = (after_line b keys size s text (first_io ios)).session in
-      added (once_if (is_tick_line s text)) (tick_lines b keys size u texts (later_io ios)) (clock_in s.kernel)
+      added (once_if (is_tick_line b.words s text)) (tick_lines b keys size u texts (later_io ios)) (clock_in s.kernel)
       (clock_in u.kernel)
       (clock_in (session_after b keys size u texts (later_io ios)).kernel)
       (line_counts s text (first_io ios)) (lines_count u texts (later_io ios))

@@ -87,7 +87,7 @@ LinesTellAnswers b =
     (keys : Keys) (d : Disk) (before after : List (List ℕ)) (text : List ℕ)
     (ios : List (List Bool)) (p port : ℕ) (bytes : List ℕ) →
     let s = run_of b keys d before ios in
-    line_event s text ≡ Some (Sys p (Serve port bytes)) →
+    line_event b.words s text ≡ Some (Sys p (Serve port bytes)) →
     let texts = before ++ text ∷ after in
     let first = first_session d in
     TellAnswers (suc s.events) (after_lines b keys d.size first texts ios).notes

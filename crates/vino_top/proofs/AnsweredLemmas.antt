@@ -68,7 +68,8 @@ answers_before_reads keys x y status does source sink sound broken =
       status_is = three;
       taken = ran.taken;
       within =
-          by_fault (text_parsed ran.taken) ran.ending ran.taken (rest_after [] (take SCRIPT_BYTES ran.taken)) x.source y.source
+          by_fault (text_parsed c.words ran.taken) ran.ending ran.taken
+          (rest_after [] (take SCRIPT_BYTES ran.taken)) x.source y.source
           ran.status_by_text ran.ended;
       consumed = ran.consumed;
       ios = ran.ios;

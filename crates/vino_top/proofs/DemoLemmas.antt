@@ -155,7 +155,7 @@ demo_goes_on c all texts later text s t u d e f old new next p q =
 
 -- there was no memory for the next one
 pub demo_stops : (c : Place) (all texts later : List (List ℕ)) (text : List ℕ) (s t : Seen)
-    (d e f : DiskSeen) (old : Tally) → texts ≡ text ∷ later → WantsAt c.meaning t text → f ≡ e →
+    (d e f : DiskSeen) (old : Tally) → texts ≡ text ∷ later → WantsAt c.words c.meaning t text → f ≡ e →
     DemoReached c all texts s t d e old → DemoStops c all s d f
 demo_stops c all texts later text s t d e f old next wants same p =
     record {
@@ -285,7 +285,7 @@ demo_lacked n size s d e begun p =
       one_each = p.ran.one_each;
       calls = p.ran.calls;
       wants = λ a first.
-          subst (λ (b : Session). WantsMemory b p.next) (session_of_all c a p.done p.ran.ios)
+          subst (λ (b : Session). WantsMemory c.words b p.next) (session_of_all c a p.done p.ran.ios)
           (p.wants e.known (all_run c a p.done p.ran.ios).session
           (p.ran.comes a (begun_stands c.meaning size s d.known a begun first)).stands);
       used = λ a first. p.ran.used a (begun_stands c.meaning size s d.known a begun first);

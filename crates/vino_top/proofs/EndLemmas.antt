@@ -152,7 +152,7 @@ ran_by c s t x y r2 k m g2 d e l left status ending last begun p kept more ended
     ∙ ap (outcome_of ending (lines_run c a lines p.fed.ios) (pieces_run c a lines p.fed.ios)) (sym p.fed.line_is) in
     let so = λ (a : Session) (first : IsFirst c.size d.known a).
     out (lines_run c a lines p.fed.ios) (pieces_run c a lines p.fed.ios) (p.fed.stands a (from a first)) in
-    let text = text_ends (parsed_of s) (parsed_of t) p.taken l p.fed.out last ending status
+    let text = text_ends c.words (parsed_of s) (parsed_of t) p.taken l p.fed.out last ending status
     (begun_parsed s begun) p.fed.line_is p.fed.by_text ends in
     record {
       taken = p.taken;

@@ -15,7 +15,7 @@ use Rattle.placed_laws.specs.Placed.{Placed}
 use Rattle.placed_laws.specs.Stands as kernels
 use Rattle.script_model.specs.Images.{load}
 use Rattle.script_model.specs.Kernel as abstract
-use Rattle.script_model.specs.Script.{Entry, Loads, parsed_line}
+use Rattle.script_model.specs.Script.{Entry, OwnWord, Loads, parsed_line}
 use Rattle.script_model.specs.ImageLines.{image_answer}
 use Rattle.script_model.specs.Session.{after_image, after_entry, running_in}
 use Rattle.script_model.specs.Text.{line}
@@ -49,10 +49,10 @@ no_image None h = refl
 no_image (Some i) h = up_is_down h
 
 -- a line that loads an image into a slot that is free, once it is counted, wants memory
-pub wants_free : (m : Meaning) (s : Seen) (text : List ℕ) (e : Entry) → s.refused ≡ false →
-    parsed_line s.booted text ≡ Ok e →
-    LoadsFree (record s { lines = s.lines + 1 }) e → WantsAt m s text
-wants_free m s text e going is loads = λ known a stands.
+pub wants_free : (own : List OwnWord) (m : Meaning) (s : Seen) (text : List ℕ) (e : Entry) → s.refused ≡ false →
+    parsed_line own s.booted text ≡ Ok e →
+    LoadsFree (record s { lines = s.lines + 1 }) e → WantsAt own m s text
+wants_free own m s text e going is loads = λ known a stands.
     let has = stands.booted loads.booted in
     record {
       going = stands.refused ∙ going;
@@ -60,7 +60,7 @@ wants_free m s text e going is loads = λ known a stands.
       runs = has.is;
       slot = loads.slot;
       bytes = loads.bytes;
-      says = ap (λ b. parsed_line b text) (sym loads.booted) ∙ is ∙ ap (λ (x : Entry). Ok x) loads.is;
+      says = ap (λ b. parsed_line own b text) (sym loads.booted) ∙ is ∙ ap (λ (x : Entry). Ok x) loads.is;
       in_range = loads.in_range;
       free =
           no_image (has.kernel.images loads.slot)

@@ -7,11 +7,11 @@ use Rattle.kernel_data.specs.Bytes.{hex_word}
 use Rattle.script_model.specs.declared.Command.{Command}
 use Rattle.script_model.specs.declared.Command.TheVariants as command
 use Rattle.script_model.specs.Script as script
-use Rattle.script_model.specs.Script.{Entry, Boot, ScriptFault, WrongPlace, UnknownCommand}
+use Rattle.script_model.specs.Script.{Entry, OwnWord, Boot, ScriptFault, WrongPlace, UnknownCommand}
 use Rattle.script_model.specs.Script.{TooLong, IMAGE_DIGITS, LINE_BYTES, is_setup, all_commands}
 use Rattle.script_model.specs.Script.{command_word, is_blank, within, loads_by, happens_by}
 use Rattle.script_model.specs.Script.{call_of, entry_of, entry_by, entry_at, words_said, forms_of}
-use Rattle.script_model.specs.Script.{same_bool, words_of, other_words, first_word, command_named}
+use Rattle.script_model.specs.Script.{same_bool, words_of, other_words, first_word, command_among}
 use Rattle.script_model.specs.Script.{parsed_line}
 
 -- a line says `boot`
@@ -57,24 +57,26 @@ command_boots words None = refl
 command_boots words (Some c) = placed_boots c (is_setup c) (words_said [] [] (forms_of c) words) refl
 
 -- after `boot` no line says it
-line_boots : (text : List ℕ) (long blank : Bool) →
+line_boots : (own : List OwnWord) (text : List ℕ) (long blank : Bool) →
     boots (elim long as (λ _. Result Entry ScriptFault) [
       | true ↦ Err TooLong
       | false ↦ elim blank as (λ _. Result Entry ScriptFault) [
         | true ↦ Ok script.Blank
-        | false ↦ entry_at true (other_words (words_of text)) (command_named (first_word (words_of text)))
+        | false ↦ entry_at true (other_words (words_of text)) (command_among own (first_word (words_of text)))
       ]
     ]) ≡ false
-line_boots text true blank = refl
-line_boots text false true = refl
-line_boots text false false = command_boots (other_words (words_of text)) (command_named (first_word (words_of text)))
+line_boots own text true blank = refl
+line_boots own text false true = refl
+line_boots own text false false =
+    command_boots (other_words (words_of text)) (command_among own (first_word (words_of text)))
 
 -- so a line that says it stands before it
-pub boot_is_first : (booted : Bool) (text : List ℕ) → parsed_line booted text ≡ Ok Boot → booted ≡ false
-boot_is_first false text is = refl
-boot_is_first true text is =
+pub boot_is_first : (own : List OwnWord) (booted : Bool) (text : List ℕ) →
+    parsed_line own booted text ≡ Ok Boot → booted ≡ false
+boot_is_first own false text is = refl
+boot_is_first own true text is =
     absurd (contrary
-    (sym (line_boots text (nat_lt LINE_BYTES (length text)) (is_blank text)) ∙ ap boots is))
+    (sym (line_boots own text (nat_lt LINE_BYTES (length text)) (is_blank text)) ∙ ap boots is))
   where
     contrary : false ≡ true → ⊥
     contrary k = cc

@@ -130,7 +130,7 @@ fed_none c s l g d =
       appended = λ a from. Appends-nil g;
       out = [];
       took = Appends-nil g;
-      by_text = goes_none (parsed_of s);
+      by_text = goes_none c.words (parsed_of s);
     }
 
 -- more bytes are fed
@@ -174,7 +174,7 @@ fed_more c s t u l m n xs ys g h k d e f p q =
       out = p.out ++ second.out;
       took = Appends-trans _ _ _ _ _ p.took second.took;
       by_text =
-          rw lines (goes_more (parsed_of s) (parsed_of t) (parsed_of u) (lines_after l xs)
+          rw lines (goes_more c.words (parsed_of s) (parsed_of t) (parsed_of u) (lines_after l xs)
           (lines_after (rest_after l xs) ys) p.out second.out p.by_text second.by_text);
     }
 
@@ -195,7 +195,7 @@ fed_byte c s l byte g d goes =
       appended = λ a from. rw gone (Appends-nil g);
       out = [];
       took = Appends-nil g;
-      by_text = rw gone (goes_none (parsed_of s));
+      by_text = rw gone (goes_none c.words (parsed_of s));
     }
 
 -- a line ended at this byte
@@ -244,7 +244,7 @@ fed_plain c s l m xs g d none rest =
       appended = λ a from. rw none (Appends-nil g);
       out = [];
       took = Appends-nil g;
-      by_text = rw none (goes_none (parsed_of s));
+      by_text = rw none (goes_none c.words (parsed_of s));
     }
 
 -- a front, and a front of what is behind it
@@ -477,7 +477,7 @@ line_written c text s t out g h d e (Err stop) runs lines p =
 
 -- there was no memory for a line
 pub line_lacks : (c : Place) (text : List ℕ) (s : Seen) (g : Option (List ℕ)) (d e : DiskSeen) →
-    e ≡ d → WantsAt c.meaning s text →
+    e ≡ d → WantsAt c.words c.meaning s text →
     StopsAt c (StandsFor c.meaning s d.known) (text ∷ []) g g d e NoMemory
 line_lacks c text s g d e same wants =
     rw same (record {

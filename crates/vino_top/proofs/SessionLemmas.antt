@@ -17,8 +17,8 @@ use Rattle.kernel_data.specs.Objects.{at}
 use Rattle.script_model.specs.Script as script_is
 use Rattle.script_model.specs.Script.{Entry, Blank, Frames, Patience, Grant, Boot, Happens, Raw}
 use Rattle.script_model.specs.Script.{ScriptFault, LINE_BYTES, is_blank, entry_at, other_words}
-use Rattle.script_model.specs.Script.{words_of, command_named, first_word, fault_number}
-use Rattle.script_model.specs.Script.{parsed_line}
+use Rattle.script_model.specs.Script.{words_of, command_among, first_word, fault_number}
+use Rattle.script_model.specs.Script.{OwnWord, Loads, parsed_line}
 use Rattle.script_text.specs.declared.parse.ScriptFault.{ScriptFault as TextFault}
 use Rattle.script_text.specs.declared.parse.ScriptFault.TheVariants as text
 use Rattle.script_text.specs.Answers.{Refuses}
@@ -46,7 +46,7 @@ use Rattle.vino_top.specs.Built.{build_over}
 use Rattle.vino_top.specs.Standing.{Seen, StandsFor, setup_of, code_seen}
 use Rattle.vino_top.specs.Parsed.{Parsed, parsed_entry}
 use Rattle.vino_top.specs.Run.{Place, line_run, parsed_of, Left, LeavesText, LineMatches, RunsLine}
-use Rattle.vino_top.specs.Run.{RunsEntry, TellsFailures, boot_line}
+use Rattle.vino_top.specs.Run.{RunsEntry, TellsFailures, boot_line, build_of, place_over}
 use Rattle.vino_top.proofs.ParsedLemmas.{goes_refused, goes_entry, goes_fault}
 
 -- what is booted isn't not booted
@@ -341,6 +341,32 @@ kernel_is_some : {m : Meaning} (s : Seen) (known : Option (List (List ℕ))) (a 
 kernel_is_some s known a false stands h = ap is_some (stands.unbooted h)
 kernel_is_some s known a true stands h = ap is_some (stands.booted h).is
 
+-- what an entry makes of a session doesn't depend on the words that are added
+same_running : (c : Place) (a : Session) (e : Entry) (k : Option abstract.Kernel) (io : List Bool) →
+    running_in (build_of c) c.keys c.size a e k io
+    ≡ running_in (build_over c.meaning) c.keys c.size a e k io
+same_running c a e None io = refl
+same_running c a (Happens what) (Some k) io = refl
+same_running c a (Loads slot bytes) (Some k) io = refl
+same_running c a Raw (Some k) io = refl
+same_running c a Blank (Some k) io = refl
+same_running c a (Frames n) (Some k) io = refl
+same_running c a (Patience kind n) (Some k) io = refl
+same_running c a (Grant n) (Some k) io = refl
+same_running c a Boot (Some k) io = refl
+
+same_entry : (c : Place) (a : Session) (e : Entry) (io : List Bool) →
+    after_entry (build_of c) c.keys c.size a e io
+    ≡ after_entry (build_over c.meaning) c.keys c.size a e io
+same_entry c a Blank io = refl
+same_entry c a (Frames n) io = refl
+same_entry c a (Patience kind n) io = refl
+same_entry c a (Grant n) io = refl
+same_entry c a Boot io = refl
+same_entry c a (Happens what) io = same_running c a (Happens what) a.kernel io
+same_entry c a (Loads slot bytes) io = same_running c a (Loads slot bytes) a.kernel io
+same_entry c a Raw io = same_running c a Raw a.kernel io
+
 -- a session after a refused line
 pub line_after_refusal : (c : Place) (s : Seen) (text : List ℕ) (out : Left) (d : DiskSeen) →
     s.refused ≡ true → LeavesText out [] → RunsLine c text s s d d out
@@ -348,14 +374,14 @@ line_after_refusal c s text out d refused said =
     record {
       io = [];
       made = made_none d;
-      by_text = goes_refused (parsed_of s) text out.bytes refused said.bytes_are;
+      by_text = goes_refused c.words (parsed_of s) text out.bytes refused said.bytes_are;
       told = λ entry going is. absurd (up_is_down (sym refused ∙ going));
       comes = λ a rest stands.
           let is : line_run c a text rest ≡ silent a rest =
           ap (λ (b : Bool). elim b as (λ _. Written) [
             | true ↦ silent a rest
-            | false ↦ after_parse (build_over c.meaning) c.keys c.size (record a { lines = suc a.lines })
-                (parsed_line (is_some a.kernel) text) rest
+            | false ↦ after_parse (build_of c) c.keys c.size (record a { lines = suc a.lines })
+                (parsed_line c.words (is_some a.kernel) text) rest
           ]) (stands.refused ∙ refused) in
           subst (λ w. LineMatches c.meaning s d.known out w rest) (sym is) (record {
             stands = stands;
@@ -368,17 +394,17 @@ line_after_refusal c s text out d refused said =
 -- a line of a session that goes on is what its words say
 line_parsed : (c : Place) (s : Seen) (known : Option (List (List ℕ))) (a : Session) (text : List ℕ)
     (said : Result Entry ScriptFault) (io : List Bool) →
-    StandsFor c.meaning s known a → s.refused ≡ false → parsed_line s.booted text ≡ said →
-    line_run c a text io ≡ after_parse (build_over c.meaning) c.keys c.size (record a { lines = suc a.lines }) said io
+    StandsFor c.meaning s known a → s.refused ≡ false → parsed_line c.words s.booted text ≡ said →
+    line_run c a text io ≡ after_parse (build_of c) c.keys c.size (record a { lines = suc a.lines }) said io
 line_parsed c s known a text said io stands going is =
     let u = record a { lines = suc a.lines } in
     ap (λ (refused : Bool). elim refused as (λ _. Written) [
       | true ↦ silent a io
-      | false ↦ after_parse (build_over c.meaning) c.keys c.size u (parsed_line (is_some a.kernel) text) io
+      | false ↦ after_parse (build_of c) c.keys c.size u (parsed_line c.words (is_some a.kernel) text) io
     ]) (stands.refused ∙ going)
-    ∙ ap (λ (b : Bool). after_parse (build_over c.meaning) c.keys c.size u (parsed_line b text) io)
+    ∙ ap (λ (b : Bool). after_parse (build_of c) c.keys c.size u (parsed_line c.words b text) io)
     (kernel_is_some s known a s.booted stands refl)
-    ∙ ap (λ (r : Result Entry ScriptFault). after_parse (build_over c.meaning) c.keys c.size u r io) is
+    ∙ ap (λ (r : Result Entry ScriptFault). after_parse (build_of c) c.keys c.size u r io) is
 
 -- a session whose next line was counted
 counted : {m : Meaning} (s : Seen) (known : Option (List (List ℕ))) (a : Session) → StandsFor m s known a →
@@ -405,20 +431,22 @@ no_entry fault x h = cc
 -- a line is run for what it says
 pub line_entered : (c : Place) (s t : Seen) (text : List ℕ) (out : Left) (entry : Entry)
     (d e : DiskSeen) → s.refused ≡ false →
-    parsed_line s.booted text ≡ Ok entry →
-    RunsEntry c entry (record s { lines = s.lines + 1 }) t d e out → RunsLine c text s t d e out
+    parsed_line c.words s.booted text ≡ Ok entry →
+    RunsEntry (place_over c.meaning c.keys c.size) entry (record s { lines = s.lines + 1 }) t d e out →
+    RunsLine c text s t d e out
 line_entered c s t text out entry d e going is runs =
     record {
       io = runs.io;
       made = runs.made;
-      by_text = goes_entry (parsed_of s) (parsed_of t) text out.bytes entry going is
+      by_text = goes_entry c.words (parsed_of s) (parsed_of t) text out.bytes entry going is
           (runs.parsed ∙ ap (λ (n : ℕ). parsed_entry (record (parsed_of s) { lines = n }) entry) (add-one s.lines));
       told =
           λ other still says. subst (λ (x : Entry). TellsFailures s.setup.frames c.size x out
           runs.io) (one_entry entry other (sym is ∙ says)) runs.told;
       comes = λ a rest stands.
           subst (λ w. LineMatches c.meaning t e.known out w rest)
-          (sym (line_parsed c s d.known a text (Ok entry) (runs.io ++ rest) stands going is))
+          (sym (line_parsed c s d.known a text (Ok entry) (runs.io ++ rest) stands going is
+          ∙ same_entry c (record a { lines = suc a.lines }) entry (runs.io ++ rest)))
           (runs.comes (record a { lines = suc a.lines }) rest (counted s d.known a stands));
     }
 
@@ -439,7 +467,7 @@ refused_now s known a stands =
 -- a line is refused for this fault
 pub line_refused : (c : Place) (s t : Seen) (text : List ℕ) (out : Left) (fault : ScriptFault)
     (d : DiskSeen) → s.refused ≡ false →
-    parsed_line s.booted text ≡ Err fault → t ≡ record s { lines = s.lines + 1; refused = true } →
+    parsed_line c.words s.booted text ≡ Err fault → t ≡ record s { lines = s.lines + 1; refused = true } →
     LeavesText out (line
     (codes "script" ++ spaced (s.lines + 1) ++ codes " S" ++ decimal (fault_number fault))) →
     RunsLine c text s t d d out
@@ -447,7 +475,7 @@ line_refused c s t text out fault d going is state said =
     record {
       io = [];
       made = made_none d;
-      by_text = goes_fault (parsed_of s) (parsed_of t) text out.bytes fault going is
+      by_text = goes_fault c.words (parsed_of s) (parsed_of t) text out.bytes fault going is
           (ap parsed_of state ∙ ap (λ (n : ℕ). record (parsed_of s) { lines = n; refused = true }) (add-one s.lines))
           (said.bytes_are ∙ ap (λ (n : ℕ). line (fault_text n fault)) (add-one s.lines));
       told = λ entry still says. absurd (no_entry fault entry (sym is ∙ says));
@@ -468,16 +496,16 @@ line_refused c s t text out fault d going is state said =
     }
 
 -- a line that is longer than a line may be
-long_said : (long booted : Bool) (text : List ℕ) → long ≡ true →
+long_said : (own : List OwnWord) (long booted : Bool) (text : List ℕ) → long ≡ true →
     elim long as (λ _. Result Entry ScriptFault) [
       | true ↦ Err script_is.TooLong
       | false ↦ elim (is_blank text) as (λ _. Result Entry ScriptFault) [
         | true ↦ Ok Blank
-        | false ↦ entry_at booted (other_words (words_of text)) (command_named (first_word (words_of text)))
+        | false ↦ entry_at booted (other_words (words_of text)) (command_among own (first_word (words_of text)))
       ]
     ] ≡ Err script_is.TooLong
-long_said true booted text h = refl
-long_said false booted text h = down_is_up h
+long_said own true booted text h = refl
+long_said own false booted text h = down_is_up h
 
 pub line_too_long : (c : Place) (s t : Seen) (text : List ℕ) (out : Left) (d : DiskSeen) →
     s.refused ≡ false → 65536 < length text → t ≡ record s { lines = s.lines + 1; refused = true } →
@@ -486,7 +514,7 @@ pub line_too_long : (c : Place) (s t : Seen) (text : List ℕ) (out : Left) (d :
 line_too_long c s t text out d going long state written =
     let is : nat_lt LINE_BYTES (length text) ≡ true = grind (arith, nat_tests, long) in
     line_refused c s t text out script_is.TooLong d going
-    (long_said (nat_lt LINE_BYTES (length text)) s.booted text is) state written
+    (long_said c.words (nat_lt LINE_BYTES (length text)) s.booted text is) state written
 
 -- which fault a code stands for
 record RefusedAs (code : ℕ) (said : Result Entry ScriptFault) : Type 0 where
@@ -504,12 +532,12 @@ refused_as text.UnknownCommand said r = record { fault = script_is.UnknownComman
 -- a line is refused with this code
 pub line_refused_as : (c : Place) (s t : Seen) (text : List ℕ) (out : Left) (fault : TextFault)
     (code : ℕ) (d : DiskSeen) → s.refused ≡ false →
-    code ≡ code_seen fault → Refuses fault (parsed_line s.booted text) →
+    code ≡ code_seen fault → Refuses fault (parsed_line c.words s.booted text) →
     t ≡ record s { lines = s.lines + 1; refused = true } →
     LeavesText out (line (codes "script" ++ spaced (s.lines + 1) ++ codes " S" ++ decimal code)) →
     RunsLine c text s t d d out
 line_refused_as c s t text out fault code d going seen refuses state written =
-    let r = refused_as fault (parsed_line s.booted text) refuses in
+    let r = refused_as fault (parsed_line c.words s.booted text) refuses in
     line_refused c s t text out r.fault d going r.is state (rw (r.number, ← seen) written)
 
 -- what is written of a boot whose read failed

@@ -65,29 +65,29 @@ module _ (b : Build) (keys : Keys) (size : ℕ) where
 
   -- a line of a session, by whether one was refused and what it says
   line_by : (a : Session) (text : List ℕ) (io : List Bool) (refused : Bool) (said : Result Entry
-      ScriptFault) → a.refused ≡ refused → parsed_line (is_some a.kernel) text ≡ said →
+      ScriptFault) → a.refused ≡ refused → parsed_line b.words (is_some a.kernel) text ≡ said →
       let w = elim refused as (λ _. Written) [
         | true ↦ silent a io
         | false ↦ after_parse b keys size (record a { lines = suc a.lines }) said io
       ] in
-      GoesByText (parsed_session a) (parsed_session w.session) (text ∷ []) w.bytes
-  line_by a text io true said h is = goes_refused (parsed_session a) text [] h refl
-  line_by a text io false (Err fault) h is = goes_fault (parsed_session a) _ text _ fault h is refl refl
+      GoesByText b.words (parsed_session a) (parsed_session w.session) (text ∷ []) w.bytes
+  line_by a text io true said h is = goes_refused b.words (parsed_session a) text [] h refl
+  line_by a text io false (Err fault) h is = goes_fault b.words (parsed_session a) _ text _ fault h is refl refl
   line_by a text io false (Ok e) h is =
-      goes_entry (parsed_session a) _ text _ e h is
+      goes_entry b.words (parsed_session a) _ text _ e h is
       (entry_parsed (record a { lines = suc a.lines }) e io)
 
   -- all lines
   lines_go : (a : Session) (texts : List (List ℕ)) (ios : List (List Bool)) →
-      GoesByText (parsed_session a) (parsed_session (session_after b keys size a texts ios)) texts
+      GoesByText b.words (parsed_session a) (parsed_session (session_after b keys size a texts ios)) texts
       (concat (pieces_of b keys size a texts ios))
-  lines_go a [] ios = goes_none (parsed_session a)
+  lines_go a [] ios = goes_none b.words (parsed_session a)
   lines_go a (text ∷ texts) ios =
       let w = after_line b keys size a text (first_io ios) in
-      goes_more (parsed_session a) (parsed_session w.session)
+      goes_more b.words (parsed_session a) (parsed_session w.session)
       (parsed_session (session_after b keys size w.session texts (later_io ios)))
       (text ∷ []) texts w.bytes (concat (pieces_of b keys size w.session texts (later_io ios)))
-      (line_by a text (first_io ios) a.refused (parsed_line (is_some a.kernel) text) refl refl)
+      (line_by a text (first_io ios) a.refused (parsed_line b.words (is_some a.kernel) text) refl refl)
       (lines_go w.session texts (later_io ios))
 
 -- ---- the end
@@ -154,10 +154,10 @@ ends_by_text b keys taken e d ios =
     let s = session_after b keys d.size (first_session d) lines ios in
     let pieces = pieces_of b keys d.size (first_session d) lines ios in
     let so = outcome_ends s.refused e s pieces rest refl in
-    let text = text_ends first_parsed (parsed_session s) taken rest (concat pieces) so.last e _ refl
+    let text = text_ends b.words first_parsed (parsed_session s) taken rest (concat pieces) so.last e _ refl
     refl (lines_go b keys d.size (first_session d) lines ios) so.ends in
     record {
       parsed = text.parsed;
       status = text.status_is;
-      refusal = subst (λ (x : List ℕ). EndsWith x (text_refusal taken e)) (sym so.bytes) text.refusal;
+      refusal = subst (λ (x : List ℕ). EndsWith x (text_refusal b.words taken e)) (sym so.bytes) text.refusal;
     }

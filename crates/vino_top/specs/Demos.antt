@@ -7,14 +7,14 @@ use Rattle.script_model.specs.Session.{Session, Written, after_lines}
 use Rattle.script_model.specs.Demo.{demo_keys, demo_lines, summary}
 use Rattle.demo_text.specs.declared.tally.Tally.{Tally}
 use Rattle.demo_text.specs.Tallies.{IsTally}
-use Rattle.vino_top.specs.Built.{build_over, present_build}
+use Rattle.vino_top.specs.Built.{present_build}
 use Rattle.vino_top.specs.Standing.{Seen, StandsFor}
-use Rattle.vino_top.specs.Run.{Place, place, lines_run, UsesAll, MadeAll, ForEachSession, IsFirst}
-use Rattle.vino_top.specs.Run.{WantsMemory, WantsAt, Left, LineMatches}
+use Rattle.vino_top.specs.Run.{Place, place, build_of, lines_run, UsesAll, MadeAll}
+use Rattle.vino_top.specs.Run.{ForEachSession, IsFirst, WantsMemory, WantsAt, Left, LineMatches}
 
 -- what all these lines make of a session, and what they write
 abbrev pub all_run : Place → Session → List (List ℕ) → List (List Bool) → Written
-all_run c a texts ios = after_lines (build_over c.meaning) c.keys c.size a texts ios
+all_run c a texts ios = after_lines (build_of c) c.keys c.size a texts ios
 
 -- The session went on by these lines, which took the disk from the one to the other and left `out`
 -- behind, in all.
@@ -74,7 +74,7 @@ pub record DemoLacked (n size : ℕ) (d e : DiskSeen) : Type 0 where
   pub one_each : length ios ≡ length done
   pub calls : MadeAll d e ios
   pub wants : ForEachSession (demo_place size) (IsFirst size d.known)
-      (λ c a. WantsMemory (lines_run c a done ios) next)
+      (λ c a. WantsMemory c.words (lines_run c a done ios) next)
   pub used : ForEachSession (demo_place size) (IsFirst size d.known) (λ c a. UsesAll c a done ios)
   pub blocks : ForEachSession (demo_place size) (IsFirst size d.known)
       (λ c a. Knows e.known (lines_run c a done ios).blocks)
@@ -115,6 +115,6 @@ pub record DemoStops (c : Place) (all : List (List ℕ)) (s : Seen) (d e : DiskS
   pub later : List (List ℕ)
   pub order : all ≡ done ++ next ∷ later
   pub t : Seen
-  pub wants : WantsAt c.meaning t next
+  pub wants : WantsAt c.words c.meaning t next
   pub out : Left
   pub ran : RanLines c done s t d e out

@@ -1,7 +1,7 @@
 -- What the text of its lines alone makes of a run: which line is refused, and how the run ends.
 -- Neither keys nor blocks nor calls of the disk come into it.
 use Rattle.std.specs.Prelude.{◌≡◌, ℕ, suc, Bool, true, false, cond, List, [], ◌∷◌, ◌++◌, take, is_some, Result, Ok, Err}
-use Rattle.script_model.specs.Script.{Entry, Boot, ScriptFault, Unfinished, parsed_line}
+use Rattle.script_model.specs.Script.{Entry, Boot, ScriptFault, OwnWord, Unfinished, parsed_line}
 use Rattle.script_model.specs.Session.{Session, fault_text}
 use Rattle.script_model.specs.Text.{line}
 use Rattle.script_model.specs.Outcome.{SCRIPT_BYTES, Ending, End, Fault, Over, lines_after, rest_after}
@@ -35,25 +35,27 @@ abbrev pub refusal_said : (n : ℕ) → Result Entry ScriptFault → List ℕ
 refusal_said n (Err fault) = line (fault_text n fault)
 refusal_said n (Ok e) = []
 
--- how far a script has come with one line more
-abbrev pub parsed_after : Parsed → List ℕ → Parsed
-parsed_after p text =
+-- how far a script has come with one line more, where these words are added
+abbrev pub parsed_after : List OwnWord → Parsed → List ℕ → Parsed
+parsed_after own p text =
     cond p.refused p
-    (parsed_said (record p { lines = suc p.lines }) (parsed_line p.booted text))
+    (parsed_said (record p { lines = suc p.lines }) (parsed_line own p.booted text))
 
 -- the refusal of that line, or nothing
-abbrev pub refusal_after : Parsed → List ℕ → List ℕ
-refusal_after p text = cond p.refused [] (refusal_said (suc p.lines) (parsed_line p.booted text))
+abbrev pub refusal_after : List OwnWord → Parsed → List ℕ → List ℕ
+refusal_after own p text =
+    cond p.refused [] (refusal_said (suc p.lines) (parsed_line own p.booted text))
 
 -- how far a script has come with these lines more
-abbrev pub parsed_all : Parsed → List (List ℕ) → Parsed
-parsed_all p [] = p
-parsed_all p (text ∷ texts) = parsed_all (parsed_after p text) texts
+abbrev pub parsed_all : List OwnWord → Parsed → List (List ℕ) → Parsed
+parsed_all own p [] = p
+parsed_all own p (text ∷ texts) = parsed_all own (parsed_after own p text) texts
 
 -- the refusal among these lines: that of the first that is refused, or nothing
-abbrev pub refusal_among : Parsed → List (List ℕ) → List ℕ
-refusal_among p [] = []
-refusal_among p (text ∷ texts) = refusal_after p text ++ refusal_among (parsed_after p text) texts
+abbrev pub refusal_among : List OwnWord → Parsed → List (List ℕ) → List ℕ
+refusal_among own p [] = []
+refusal_among own p (text ∷ texts) =
+    refusal_after own p text ++ refusal_among own (parsed_after own p text) texts
 
 -- these bytes end with those
 pub record EndsWith (bytes last : List ℕ) : Type 0 where
@@ -62,9 +64,10 @@ pub record EndsWith (bytes last : List ℕ) : Type 0 where
 
 -- A script went on by these lines, which wrote these bytes, as their text says: what is written
 -- ends with the refusal, and behind a refused line nothing is.
-pub record GoesByText (p q : Parsed) (texts : List (List ℕ)) (bytes : List ℕ) : Type 0 where
-  pub parsed : q ≡ parsed_all p texts
-  pub ends : EndsWith bytes (refusal_among p texts)
+pub record GoesByText (own : List OwnWord) (p q : Parsed) (texts : List (List ℕ))
+    (bytes : List ℕ) : Type 0 where
+  pub parsed : q ≡ parsed_all own p texts
+  pub ends : EndsWith bytes (refusal_among own p texts)
   pub silent : p.refused ≡ true → bytes ≡ []
 
 -- ---- a whole run
@@ -91,20 +94,21 @@ abbrev pub refusal_by : Parsed → Ending → (rest : List ℕ) → List ℕ
 refusal_by p e rest = cond p.refused [] (going_refusal e p.lines rest)
 
 -- how far a script has come of which these bytes were taken
-abbrev pub text_parsed : (taken : List ℕ) → Parsed
-text_parsed taken = parsed_all first_parsed (lines_after [] (take SCRIPT_BYTES taken))
+abbrev pub text_parsed : List OwnWord → (taken : List ℕ) → Parsed
+text_parsed own taken = parsed_all own first_parsed (lines_after [] (take SCRIPT_BYTES taken))
 
 -- The status of a run that took these bytes and ended reading so: 2 for a refused line, whatever
 -- follows it, and else 0 or 2 at the end of the input, 3 after a failed read, and 7 past the most
 -- bytes.
-abbrev pub text_status : (taken : List ℕ) → Ending → ℕ
-text_status taken e = status_by (text_parsed taken) e (rest_after [] (take SCRIPT_BYTES taken))
+abbrev pub text_status : List OwnWord → (taken : List ℕ) → Ending → ℕ
+text_status own taken e =
+    status_by (text_parsed own taken) e (rest_after [] (take SCRIPT_BYTES taken))
 
 -- The line that tells of the refused line, with its number and why; nothing where none is refused.
-abbrev pub text_refusal : (taken : List ℕ) → Ending → List ℕ
-text_refusal taken e =
-    refusal_among first_parsed (lines_after [] (take SCRIPT_BYTES taken))
-    ++ refusal_by (text_parsed taken) e (rest_after [] (take SCRIPT_BYTES taken))
+abbrev pub text_refusal : List OwnWord → (taken : List ℕ) → Ending → List ℕ
+text_refusal own taken e =
+    refusal_among own first_parsed (lines_after [] (take SCRIPT_BYTES taken))
+    ++ refusal_by (text_parsed own taken) e (rest_after [] (take SCRIPT_BYTES taken))
 
 -- ---- the definitions
 

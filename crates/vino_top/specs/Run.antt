@@ -12,11 +12,12 @@ use Rattle.script_model.specs.declared.Keys.{Keys}
 use Rattle.kernel_data.specs.declared.FileRow.{FileRow}
 use Rattle.kernel_data.specs.declared.Note.{Note}
 use Rattle.kernel_data.specs.World.{Blocks}
-use Rattle.script_model.specs.Session.{Session, Written, first_session, after_line, after_entry}
+use Rattle.script_model.specs.Session.{Build, Session, Written, first_session, after_line}
+use Rattle.script_model.specs.Session.{after_entry}
 use Rattle.script_model.specs.Session.{session_after, pieces_of, first_io, later_io}
 use Rattle.script_model.specs.Kernel.{Kernel}
 use Rattle.script_model.specs.Meaning.{Meaning}
-use Rattle.script_model.specs.Script.{Entry, Boot, Happens, Loads, parsed_line}
+use Rattle.script_model.specs.Script.{Entry, OwnWord, Boot, Happens, Loads, parsed_line}
 use Rattle.script_model.specs.Outcome.{SCRIPT_BYTES, Ending, End, Outcome, outcome, written, lines_after, rest_after}
 use Rattle.script_model.specs.Text.{boot_text, line, note_lines}
 use Rattle.kernel_steps.specs.Faults.{fault_notes}
@@ -24,7 +25,7 @@ use Rattle.kernel_core.specs.Standing.{boot_note_of}
 use Rattle.kernel_core.specs.declared.kernel.BootNote.{BootNote}
 use Rattle.kernel_core.specs.declared.kernel.BootNote.TheVariants.{Up}
 use Rattle.kernel_core.specs.declared.kernel.BootNote.TheVariants as boot_is
-use Rattle.vino_top.specs.Built.{build_over, present_build}
+use Rattle.vino_top.specs.Built.{build_with, build_over, present_build}
 use Rattle.vino_top.specs.Standing.{Seen, seen_of, StandsFor}
 use Rattle.vino_top.specs.Parsed.{Parsed, parsed_entry, EndsWith, GoesByText, text_parsed, text_status, text_refusal}
 use Rattle.vino_top.specs.declared.session.Buffers.{Buffers}
@@ -34,33 +35,42 @@ use Rattle.vino_top.specs.declared.run.Stop.TheVariants.{SinkFailed, NoMemory}
 
 -- ---- the abstract run
 
--- where a script runs: the meaning of its system calls, the keys of its images, and how many blocks
--- its disk has
+-- where a script runs: the words that are added to the fixed ones, the meaning of its system calls,
+-- the keys of its images, and how many blocks its disk has
 pub record Place : Type 0 where
+  pub words : List OwnWord
   pub meaning : Meaning
   pub keys : Keys
   pub size : ℕ
 
--- over this table of calls, with these keys, over a disk of this size
+-- with these words, over this table of calls, with these keys, over a disk of this size
+abbrev pub place_with : List OwnWord → Meaning → Keys → (size : ℕ) → Place
+place_with own m keys size = record { words = own; meaning = m; keys = keys; size = size }
+
+-- the same with the fixed words alone
 abbrev pub place_over : Meaning → Keys → (size : ℕ) → Place
-place_over m keys size = record { meaning = m; keys = keys; size = size }
+place_over m keys size = place_with [] m keys size
 
 -- in the program, with these keys, over a disk of this size
 abbrev pub place : Keys → (size : ℕ) → Place
 place keys size = place_over present_build.meaning keys size
 
+-- what is built there
+abbrev pub build_of : Place → Build
+build_of c = build_with c.words c.meaning
+
 -- what a line makes of a session, where the list says of each of its calls of the disk whether it
 -- fails
 abbrev pub line_run : Place → Session → List ℕ → List Bool → Written
-line_run c a text io = after_line (build_over c.meaning) c.keys c.size a text io
+line_run c a text io = after_line (build_of c) c.keys c.size a text io
 
 -- the session after lines, with one such list for each line
 abbrev pub lines_run : Place → Session → List (List ℕ) → List (List Bool) → Session
-lines_run c a texts ios = session_after (build_over c.meaning) c.keys c.size a texts ios
+lines_run c a texts ios = session_after (build_of c) c.keys c.size a texts ios
 
 -- what each of these lines writes
 abbrev pub pieces_run : Place → Session → List (List ℕ) → List (List Bool) → List (List ℕ)
-pieces_run c a texts ios = pieces_of (build_over c.meaning) c.keys c.size a texts ios
+pieces_run c a texts ios = pieces_of (build_of c) c.keys c.size a texts ios
 
 -- The line makes these calls of the disk, no fewer and no more: whatever the calls behind them
 -- would do, it leaves those, writes the same bytes and comes to the same blocks.
@@ -85,7 +95,7 @@ first_on size blocks = first_session (record { size = size; block = blocks })
 -- the outcome of a run that took these bytes and ended so
 abbrev pub outcome_at : Place → Blocks → (taken : List ℕ) → Ending → List (List Bool) → Outcome
 outcome_at c blocks taken e ios =
-    outcome (build_over c.meaning) c.keys taken e (record { size = c.size; block = blocks }) ios
+    outcome (build_of c) c.keys taken e (record { size = c.size; block = blocks }) ios
 
 -- ---- what is seen outside
 
@@ -164,8 +174,8 @@ pub record RunsLine (c : Place) (text : List ℕ) (s t : Seen) (d e : DiskSeen)
   pub comes : (a : Session) (rest : List Bool) → StandsFor c.meaning s d.known a →
       LineMatches c.meaning t e.known out (line_run c a text (io ++ rest)) rest
   -- over any disk, also one that tells nothing
-  pub by_text : GoesByText (parsed_of s) (parsed_of t) (text ∷ []) out.bytes
-  pub told : (entry : Entry) → s.refused ≡ false → parsed_line s.booted text ≡ Ok entry →
+  pub by_text : GoesByText c.words (parsed_of s) (parsed_of t) (text ∷ []) out.bytes
+  pub told : (entry : Entry) → s.refused ≡ false → parsed_line c.words s.booted text ≡ Ok entry →
       TellsFailures s.setup.frames c.size entry out io
 
 -- The session went on by this entry, which took the disk from the one to the other and left `out`
@@ -193,20 +203,20 @@ pub record LoadsFree (s : Seen) (e : Entry) : Type 0 where
 
 -- The line is run, its words are right, and its image goes to a slot that is in range and free.
 -- Only such a line wants memory.
-pub record WantsMemory (a : Session) (text : List ℕ) : Type 0 where
+pub record WantsMemory (own : List OwnWord) (a : Session) (text : List ℕ) : Type 0 where
   pub going : a.refused ≡ false
   pub kernel : Kernel
   pub runs : a.kernel ≡ Some kernel
   pub slot : ℕ
   pub bytes : List ℕ
-  pub says : parsed_line true text ≡ Ok (Loads slot bytes)
+  pub says : parsed_line own true text ≡ Ok (Loads slot bytes)
   pub in_range : slot < 32
   pub free : kernel.images slot ≡ None
 
 -- so it is in whichever session over this table of calls this one stands for
-abbrev pub WantsAt : Meaning → Seen → List ℕ → Type 0
-WantsAt m s text = (known : Option (List (List ℕ))) (a : Session) → StandsFor m s known a →
-    WantsMemory a text
+abbrev pub WantsAt : List OwnWord → Meaning → Seen → List ℕ → Type 0
+WantsAt own m s text = (known : Option (List (List ℕ))) (a : Session) → StandsFor m s known a →
+    WantsMemory own a text
 
 -- from whichever of these sessions
 abbrev pub ForEachSession : Place → (Session → Type 0) → (Place → Session → Type 0) → Type 0
@@ -230,7 +240,7 @@ pub record Feeds (c : Place) (s t : Seen) (line line_new bytes : List ℕ)
   -- over any disk, also one that tells nothing: the sink took these bytes
   pub out : List ℕ
   pub took : Appends got got_new out
-  pub by_text : GoesByText (parsed_of s) (parsed_of t) (lines_after line bytes) out
+  pub by_text : GoesByText c.words (parsed_of s) (parsed_of t) (lines_after line bytes) out
 
 -- Of these lines some were run, and of what the next one writes the sink took a part, not whole.
 -- The disk is as that line leaves it.
@@ -267,7 +277,7 @@ pub record Lacks (c : Place) (from : Session → Type 0) (lines : List (List ℕ
   pub one_each : length ios ≡ length done
   pub calls : MadeAll d e ios
   pub used : ForEachSession c from (λ c a. UsesAll c a done ios)
-  pub wants : ForEachSession c from (λ c a. WantsMemory (lines_run c a done ios) next)
+  pub wants : ForEachSession c from (λ c a. WantsMemory c.words (lines_run c a done ios) next)
   pub appended : ForEachSession c from
       (λ c a. Appends got got_new (concat (pieces_run c a done ios)))
   pub blocks : ForEachSession c from (λ c a. Knows e.known (lines_run c a done ios).blocks)
@@ -320,13 +330,13 @@ pub record Ran (c : Place) (x y : Devices) (status : ℕ) : Type 0 where
   pub ios : List (List Bool)
   pub one_each : length ios ≡ length (script_lines taken)
   pub calls : MadeAll x.disk y.disk ios
-  pub ended : ((text_parsed taken).refused ≡ true) ⊎ HasEnded ending taken x.source y.source
+  pub ended : ((text_parsed c.words taken).refused ≡ true) ⊎ HasEnded ending taken x.source y.source
   -- over any disk, also one that tells nothing: the status, and what the sink took, which ends with
   -- the refusal, if there is one
-  pub status_by_text : status ≡ text_status taken ending
+  pub status_by_text : status ≡ text_status c.words taken ending
   pub out : List ℕ
   pub took : Appends x.sink.got y.sink.got out
-  pub refusal : EndsWith out (text_refusal taken ending)
+  pub refusal : EndsWith out (text_refusal c.words taken ending)
   pub used : ForEachSession c (IsFirst c.size x.disk.known)
       (λ c a. UsesAll c a (script_lines taken) ios)
   pub status_is : ForEachSession c (IsFirst c.size x.disk.known)

@@ -16,9 +16,9 @@ session_parsed b keys taken d ios =
 -- a run of the definitions goes on and ends as the text of its lines says
 pub record EndsByText (b : Build) (keys : Keys) (taken : List ℕ) (e : Ending) (d : Disk)
     (ios : List (List Bool)) : Type 0 where
-  pub parsed : session_parsed b keys taken d ios ≡ text_parsed taken
-  pub status : (outcome b keys taken e d ios).status ≡ text_status taken e
-  pub refusal : EndsWith (written (outcome b keys taken e d ios)) (text_refusal taken e)
+  pub parsed : session_parsed b keys taken d ios ≡ text_parsed b.words taken
+  pub status : (outcome b keys taken e d ios).status ≡ text_status b.words taken e
+  pub refusal : EndsWith (written (outcome b keys taken e d ios)) (text_refusal b.words taken e)
 
 -- so it is whichever the keys, the disk and its calls
 abbrev pub TextDecides : Type 0

@@ -64,7 +64,7 @@ fn run_one<B: Policy, D: Disk>(
     ensures ok { OnOk result (DemoTakes (demo_place (D.seen disk.old).size) text.now
         (seen_of run.old.session) (seen_of run.new.session) (D.seen disk.old) (D.seen disk.new)
         run.old.tally run.new.tally) }
-    ensures err { OnErr result (WantsAt all_calls (seen_of run.old.session) text.now) }
+    ensures err { OnErr result (WantsAt [] all_calls (seen_of run.old.session) text.now) }
     ensures same_disk { OnErr result (D.seen disk.new ≡ D.seen disk.old) }
 {
     run.session

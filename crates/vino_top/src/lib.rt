@@ -14,7 +14,8 @@ ghost use Rattle.vino_top.specs.Standing.{seen_of, IsBegun};
 ghost use Rattle.vino_top.specs.Bounds.{IsStock, IsSessionOver};
 ghost use Rattle.commands.specs.Words.{asked_by};
 ghost use Rattle.vino_top.specs.TextLaw.{TextDecides};
-ghost use Rattle.vino_top.specs.Run.{place_over, devices};
+ghost use Rattle.script_text.specs.Syntax.{words_seen};
+ghost use Rattle.vino_top.specs.Run.{place_with, place_over, devices};
 ghost use Rattle.vino_top.specs.Does.{Does, RunAnswers};
 
 mod demo;
@@ -33,6 +34,7 @@ use commands::{Asked, read_words};
 pub use demo_text::demo_script;
 use event_points::EventPoints;
 pub use graft_loader::Keys;
+pub use script_text::{CallName, OwnWord, no_words};
 use std::alloc::Global;
 use stream_points::StreamPoints;
 use vino_base::{Disk, Sink, Source, write_all};
@@ -120,12 +122,31 @@ pub fn run_script<C: Calls, B: Policy, S: Source, K: Sink, D: Disk>(
         (devices (S.seen src.old) (K.seen out.old) (D.seen disk.old))
         (devices (S.seen src.new) (K.seen out.new) (D.seen disk.new)) result }
 {
+    run_script_with::<C, B, S, K, D>(alloc, keys, no_words(), src, out, disk, shelf)
+}
+
+/// Runs a script as `run_script` does, with these words added to the fixed ones.
+pub fn run_script_with<C: Calls, B: Policy, S: Source, K: Sink, D: Disk>(
+    alloc: Global,
+    keys: &Keys,
+    own: &[OwnWord<'_>],
+    src: &mut S,
+    out: &mut K,
+    disk: &mut D,
+    shelf: Vec<B>,
+) -> u8
+    requires { IsStock (map B.seen shelf.items) }
+    ensures { RunAnswers
+        (place_with (words_seen own.now) C.Meaning.meaning keys.now (D.seen disk.old).size)
+        (devices (S.seen src.old) (K.seen out.old) (D.seen disk.old))
+        (devices (S.seen src.new) (K.seen out.new) (D.seen disk.new)) result }
+{
     let Ok(session) = session::Session::new(alloc, shelf) else {
         return 5;
     };
     match run::ScriptRun::new(alloc, session) {
         Err(_) => 5,
-        Ok(reader) => start::<C, B, S, K, D>(Loading { alloc, keys }, reader, src, out, disk),
+        Ok(reader) => start::<C, B, S, K, D>(Loading { alloc, keys, own }, reader, src, out, disk),
     }
 }
 
@@ -154,7 +175,8 @@ fn start<C: Calls, B: Policy, S: Source, K: Sink, D: Disk>(
     requires within { (size : ℕ) → IsSessionOver C.Meaning.meaning size reader.session }
     requires line { reader.line ≡ [] }
     ensures { RunAnswers
-        (place_over C.Meaning.meaning loading.entry.keys.now (D.seen disk.old).size)
+        (place_with (words_seen loading.entry.own.now) C.Meaning.meaning loading.entry.keys.now
+        (D.seen disk.old).size)
         (devices (S.seen src.old) (K.seen out.old) (D.seen disk.old))
         (devices (S.seen src.new) (K.seen out.new) (D.seen disk.new)) result }
 {

@@ -6,9 +6,10 @@ ghost use Rattle.std.specs.Prelude.{◌⊎◌, drop};
 ghost use Rattle.std.specs.Io.KnownBytes.{Appends, Consumes, IsAtEnd};
 ghost use Rattle.vino_base.specs.Streams.{AppendsPart, IsUsed};
 ghost use Rattle.script_model.specs.Script.{LINE_BYTES};
+ghost use Rattle.script_text.specs.Syntax.{words_seen};
 ghost use Rattle.vino_top.specs.Bounds.{IsSessionOver, CanTake};
 ghost use Rattle.vino_top.specs.declared.run.Stop.TheVariants.{SinkFailed};
-ghost use Rattle.vino_top.specs.Run.{Place, place_over, run_moment, TakesOrStops, FeedsOrStops};
+ghost use Rattle.vino_top.specs.Run.{Place, place_with, run_moment, TakesOrStops, FeedsOrStops};
 ghost use Rattle.vino_top.specs.Run.{WritesLast, devices, Ran, Broke, Lacked, stop_status};
 ghost use Rattle.vino_top.specs.Run.{is_sink_failed};
 ghost use Rattle.vino_top.specs.Standing.{seen_of, IsBegun, last_bytes, last_status};
@@ -18,7 +19,7 @@ use crate::session::{Buffers, Session};
 use call_pieces::{Calls, Policy};
 use graft_loader::Keys;
 use kernel_data::NoMemory;
-use script_text::{Fed, LineBuf};
+use script_text::{Fed, LineBuf, OwnWord};
 use std::alloc::Global;
 use vino_base::{Disk, Sink, Source, write_all};
 
@@ -34,11 +35,13 @@ pub enum Stop {
     NoMemory,
 }
 
-/// With what the images of a script are loaded: where memory is taken, and the keys of their seals.
+/// With what a script is run: where the images' memory is taken, the keys of their seals, and the
+/// words that are added to the fixed ones.
 #[derive(Clone, Copy)]
 pub struct Loading<'a> {
     pub alloc: Global,
     pub keys: &'a Keys,
+    pub own: &'a [OwnWord<'a>],
 }
 
 /// The run of a script: its session, the line that is being read, and what a line leaves behind.
@@ -94,6 +97,7 @@ fn write_lines<C: Calls, B: Policy, K: Sink>(
 fn run_whole<C: Calls, B: Policy, K: Sink, D: Disk>(
     alloc: Global,
     keys: &Keys,
+    own: &[OwnWord<'_>],
     reader: &mut ScriptRun<C, B>,
     text: &[u8],
     out: &mut K,
@@ -104,13 +108,13 @@ fn run_whole<C: Calls, B: Policy, K: Sink, D: Disk>(
     requires short { length text.now ≤ LINE_BYTES }
     ensures within { IsSessionOver C.Meaning.meaning (D.seen disk.new).size reader.new.session }
     ensures taken { TakesOrStops
-        (place_over C.Meaning.meaning keys.now (D.seen disk.old).size) text.now
+        (place_with (words_seen own.now) C.Meaning.meaning keys.now (D.seen disk.old).size) text.now
         (run_moment reader.old (K.seen out.old) (D.seen disk.old))
         (run_moment reader.new (K.seen out.new) (D.seen disk.new)) result }
 {
     if let Err(_) = reader
         .session
-        .run_line(alloc, keys, text, disk, &mut reader.out)
+        .run_line_with(alloc, keys, own, text, disk, &mut reader.out)
     {
         return Err(Stop::NoMemory);
     }
@@ -121,6 +125,7 @@ fn run_whole<C: Calls, B: Policy, K: Sink, D: Disk>(
 fn end_line<C: Calls, B: Policy, K: Sink, D: Disk>(
     alloc: Global,
     keys: &Keys,
+    own: &[OwnWord<'_>],
     reader: &mut ScriptRun<C, B>,
     out: &mut K,
     disk: &mut D,
@@ -128,14 +133,19 @@ fn end_line<C: Calls, B: Policy, K: Sink, D: Disk>(
     requires { CanTake C.Meaning.meaning (D.seen disk.old).size 1 reader.old }
     ensures within { IsSessionOver C.Meaning.meaning (D.seen disk.new).size reader.new.session }
     ensures taken { TakesOrStops
-        (place_over C.Meaning.meaning keys.now (D.seen disk.old).size) reader.old.line
+        (place_with (words_seen own.now) C.Meaning.meaning keys.now (D.seen disk.old).size)
+        reader.old.line
         (run_moment reader.old (K.seen out.old) (D.seen disk.old))
         (run_moment reader.new (K.seen out.new) (D.seen disk.new)) result }
 {
-    if let Err(_) = reader
-        .session
-        .run_line(alloc, keys, reader.line.line(), disk, &mut reader.out)
-    {
+    if let Err(_) = reader.session.run_line_with(
+        alloc,
+        keys,
+        own,
+        reader.line.line(),
+        disk,
+        &mut reader.out,
+    ) {
         return Err(Stop::NoMemory);
     }
     reader.line.clear();
@@ -164,6 +174,7 @@ fn end_long<C: Calls, B: Policy, K: Sink>(
 fn take_byte<C: Calls, B: Policy, K: Sink, D: Disk>(
     alloc: Global,
     keys: &Keys,
+    own: &[OwnWord<'_>],
     reader: &mut ScriptRun<C, B>,
     byte: u8,
     out: &mut K,
@@ -172,13 +183,14 @@ fn take_byte<C: Calls, B: Policy, K: Sink, D: Disk>(
     requires { CanTake C.Meaning.meaning (D.seen disk.old).size 1 reader.old }
     ensures within { IsSessionOver C.Meaning.meaning (D.seen disk.new).size reader.new.session }
     ensures fed { FeedsOrStops
-        (place_over C.Meaning.meaning keys.now (D.seen disk.old).size) (byte ∷ [])
+        (place_with (words_seen own.now) C.Meaning.meaning keys.now (D.seen disk.old).size)
+        (byte ∷ [])
         (run_moment reader.old (K.seen out.old) (D.seen disk.old))
         (run_moment reader.new (K.seen out.new) (D.seen disk.new)) result }
 {
     match reader.line.push(byte) {
         Fed::More => Ok(()),
-        Fed::Line => end_line(alloc, keys, reader, out, disk),
+        Fed::Line => end_line(alloc, keys, own, reader, out, disk),
         Fed::TooLong => end_long(reader, byte, out),
     }
 }
@@ -196,6 +208,7 @@ fn behind(bytes: &[u8], at: usize) -> &[u8]
 fn feed<C: Calls, B: Policy, K: Sink, D: Disk>(
     alloc: Global,
     keys: &Keys,
+    own: &[OwnWord<'_>],
     reader: &mut ScriptRun<C, B>,
     bytes: &[u8],
     out: &mut K,
@@ -204,7 +217,8 @@ fn feed<C: Calls, B: Policy, K: Sink, D: Disk>(
     requires { CanTake C.Meaning.meaning (D.seen disk.old).size (length bytes.now) reader.old }
     ensures within { IsSessionOver C.Meaning.meaning (D.seen disk.new).size reader.new.session }
     ensures fed { FeedsOrStops
-        (place_over C.Meaning.meaning keys.now (D.seen disk.old).size) bytes.now
+        (place_with (words_seen own.now) C.Meaning.meaning keys.now (D.seen disk.old).size)
+        bytes.now
         (run_moment reader.old (K.seen out.old) (D.seen disk.old))
         (run_moment reader.new (K.seen out.new) (D.seen disk.new)) result }
 {
@@ -213,7 +227,7 @@ fn feed<C: Calls, B: Policy, K: Sink, D: Disk>(
         let rest = behind(bytes, at);
         if let Some(end) = reader.line.next_whole(rest) {
             let text = &rest[..end];
-            if let Err(stop) = run_whole(alloc, keys, reader, text, out, disk) {
+            if let Err(stop) = run_whole(alloc, keys, own, reader, text, out, disk) {
                 return Err(stop);
             }
             at += end + 1;
@@ -223,7 +237,7 @@ fn feed<C: Calls, B: Policy, K: Sink, D: Disk>(
         if at == bytes.len() {
             continue;
         }
-        if let Err(stop) = take_byte(alloc, keys, reader, bytes[at], out, disk) {
+        if let Err(stop) = take_byte(alloc, keys, own, reader, bytes[at], out, disk) {
             return Err(stop);
         }
         at += 1;
@@ -283,15 +297,18 @@ pub fn run_to_end<C: Calls, B: Policy, S: Source, K: Sink, D: Disk>(
     requires line { reader.old.line ≡ [] }
     requires room { 0 < length buf.old }
     ensures ran { result ≢ 4 → result ≢ 5 →
-        Ran (place_over C.Meaning.meaning loading.entry.keys.now (D.seen disk.old).size)
+        Ran (place_with (words_seen loading.entry.own.now) C.Meaning.meaning loading.entry.keys.now
+        (D.seen disk.old).size)
         (devices (S.seen src.old) (K.seen out.old) (D.seen disk.old))
         (devices (S.seen src.new) (K.seen out.new) (D.seen disk.new)) result }
     ensures broke { result ≡ 4 → Broke
-        (place_over C.Meaning.meaning loading.entry.keys.now (D.seen disk.old).size)
+        (place_with (words_seen loading.entry.own.now) C.Meaning.meaning loading.entry.keys.now
+        (D.seen disk.old).size)
         (devices (S.seen src.old) (K.seen out.old) (D.seen disk.old))
         (devices (S.seen src.new) (K.seen out.new) (D.seen disk.new)) }
     ensures lacked { result ≡ 5 → Lacked
-        (place_over C.Meaning.meaning loading.entry.keys.now (D.seen disk.old).size)
+        (place_with (words_seen loading.entry.own.now) C.Meaning.meaning loading.entry.keys.now
+        (D.seen disk.old).size)
         (devices (S.seen src.old) (K.seen out.old) (D.seen disk.old))
         (devices (S.seen src.new) (K.seen out.new) (D.seen disk.new)) }
     ensures statuses { (result ≡ 0) ⊎ (result ≡ 2) ⊎ (result ≡ 3) ⊎ (result ≡ 4) ⊎ (result ≡ 5)
@@ -309,7 +326,15 @@ pub fn run_to_end<C: Calls, B: Policy, S: Source, K: Sink, D: Disk>(
                 let script = n.min(left - 1);
                 left -= n;
                 let bytes = &buf[..script];
-                if let Err(stop) = feed(loading.alloc, loading.keys, reader, bytes, out, disk) {
+                if let Err(stop) = feed(
+                    loading.alloc,
+                    loading.keys,
+                    loading.own,
+                    reader,
+                    bytes,
+                    out,
+                    disk,
+                ) {
                     return status_of(stop);
                 }
                 if reader.session.refused {

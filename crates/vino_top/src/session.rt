@@ -12,6 +12,7 @@ ghost use Rattle.kernel_data.specs.Bytes.{spaced};
 ghost use Rattle.script_model.specs.Script.{Happens, Boot, Loads, Raw, Unfinished};
 ghost use Rattle.script_model.specs.Session.{fault_text};
 ghost use Rattle.script_text.specs.Answers.{entry_seen, SetsWithin};
+ghost use Rattle.script_text.specs.Syntax.{words_seen};
 ghost use Rattle.script_model.specs.Images as images;
 ghost use Rattle.script_model.specs.Kernel.{Kernel as Abstract};
 ghost use Rattle.script_model.specs.Sound.{IsAtRest};
@@ -21,8 +22,8 @@ ghost use Rattle.kernel_core.specs.declared.images.ImageRefusal.TheVariants.{Unl
 ghost use Rattle.kernel_core.specs.AddedImages.{slot_refused, has_memory, image_said, ImageIsAdded};
 ghost use Rattle.vino_top.specs.Bounds.{IsStock, IsSessionOver, IsOnLine, CanRunEntry};
 ghost use Rattle.vino_top.specs.Standing.{seen_of, IsBegun, last_bytes, code_seen};
-ghost use Rattle.vino_top.specs.Run.{Place, place_over, LoadsFree, WantsAt, RunsLine, RunsEntry};
-ghost use Rattle.vino_top.specs.Run.{LeavesText, boot_line, left_in};
+ghost use Rattle.vino_top.specs.Run.{Place, place_with, place_over, LoadsFree, WantsAt, RunsLine};
+ghost use Rattle.vino_top.specs.Run.{RunsEntry, LeavesText, boot_line, left_in};
 
 use crate::lines::Lines;
 use crate::loading::say_image;
@@ -32,7 +33,7 @@ use graft_loader::{Images, Keys, LoadFault};
 use kernel_core::{BootNote, ImageRefusal, Kernel, Setup, Trace};
 use kernel_data::{BLOCK_BYTES, BareEvent, BareNote, NoMemory, Refusal};
 use line_text::{Text, print_boot, print_fault, print_note};
-use script_text::{Entry, ImageBytes, ScriptFault, parse_line};
+use script_text::{Entry, ImageBytes, OwnWord, ScriptFault, no_words, parse_line};
 use std::alloc::Global;
 use vino_base::Disk;
 
@@ -137,7 +138,33 @@ impl<C: Calls, B: Policy> Session<C, B> {
             (seen_of self.old) (seen_of self.new) (D.seen disk.old) (D.seen disk.new)
             (left_in out.new)) }
         ensures err { OnErr result ((self.new ≡ self.old)
-            × WantsAt C.Meaning.meaning (seen_of self.old) text.now) }
+            × WantsAt [] C.Meaning.meaning (seen_of self.old) text.now) }
+        ensures same_disk { OnErr result (D.seen disk.new ≡ D.seen disk.old) }
+    {
+        self.run_line_with(alloc, keys, no_words(), text, disk, out)
+    }
+
+    /// Runs the next line as `run_line` does, with these words added to the fixed ones.
+    pub fn run_line_with<D: Disk>(
+        &mut self,
+        alloc: Global,
+        keys: &Keys,
+        own: &[OwnWord<'_>],
+        text: &[u8],
+        disk: &mut D,
+        out: &mut Buffers,
+    ) -> Result<(), NoMemory>
+        requires room { self.old.lines < 2 ^ 32 - 2 }
+        requires within { IsSessionOver C.Meaning.meaning (D.seen disk.old).size self.old }
+        requires short { length text.now ≤ 65536 }
+        ensures within { IsSessionOver C.Meaning.meaning (D.seen disk.new).size self.new }
+        ensures counted { self.new.lines ≤ self.old.lines + 1 }
+        ensures ok { OnOk result (RunsLine
+            (place_with (words_seen own.now) C.Meaning.meaning keys.now (D.seen disk.old).size)
+            text.now (seen_of self.old) (seen_of self.new) (D.seen disk.old) (D.seen disk.new)
+            (left_in out.new)) }
+        ensures err { OnErr result ((self.new ≡ self.old)
+            × WantsAt (words_seen own.now) C.Meaning.meaning (seen_of self.old) text.now) }
         ensures same_disk { OnErr result (D.seen disk.new ≡ D.seen disk.old) }
     {
         out.clear();
@@ -145,7 +172,7 @@ impl<C: Calls, B: Policy> Session<C, B> {
             return Ok(());
         }
         let mut entry = Entry::Blank;
-        match parse_line(text, self.booted, &mut out.bytes, &mut entry) {
+        match parse_line(own, text, self.booted, &mut out.bytes, &mut entry) {
             Err(fault) => {
                 self.lines += 1;
                 self.refuse(fault_code(fault), out);

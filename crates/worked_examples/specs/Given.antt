@@ -77,7 +77,7 @@ given_run io gs = run_of whole no_keys io gs
 
 -- what is built where all calls of the program are, and all of the callable list
 abbrev pub all_built : Build
-all_built = record { meaning = all_calls; callable = LAST_CALLABLE }
+all_built = record { meaning = all_calls; callable = LAST_CALLABLE; words = [] }
 
 -- the same with all calls of the program
 abbrev pub all_calls_run : List Bool → List Given → ℕ × List ℕ

@@ -1,5 +1,6 @@
 -- A line that stands whole is run; of others what is before their end is fed, and then their end.
-use Rattle.vino_top.specs.Run.{place_over}
+use Rattle.script_text.specs.Syntax.{words_seen}
+use Rattle.vino_top.specs.Run.{place_with}
 use Rattle.vino_top.specs.Standing.{seen_of}
 use Rattle.vino_base.specs.Streams.{not_used, used_then}
 use Rattle.std.proofs.Common.{arith, false, ◌+◌, ◌<◌, ◌≡◌, length, length-take}
@@ -12,7 +13,8 @@ pub loop-at-init : goal.loop-at-init
 loop-at-init g c =
     record {
       fed =
-          fed_none (place_over g.C.Meaning.Rules.meaning c.args.keys.now (g.D.Disk.seen c.args.disk.now).size)
+          fed_none (place_with (words_seen c.args.own.now) g.C.Meaning.Rules.meaning
+          c.args.keys.now (g.D.Disk.seen c.args.disk.now).size)
           (seen_of c.args.reader.now.session) c.args.reader.now.line _ _;
       within = c.requires.within;
       sink = not_used _;

@@ -2,14 +2,15 @@
 use Rattle.vino_top.specs.Standing.{seen_of}
 use Rattle.std.proofs.Common.{◌≤◌, ◌-◌, false, length, take}
 use Rattle.vino_base.specs.Streams.{IsUsed}
-use Rattle.vino_top.specs.Run.{place_over, Feeds}
+use Rattle.script_text.specs.Syntax.{words_seen}
+use Rattle.vino_top.specs.Run.{place_with, Feeds}
 use Rattle.vino_top.specs.Bounds.{IsSessionOver}
 use Rattle.vino_top.proofs.run.feed.Given as goal
 
 abbrev pub invariant-loop-at : goal.invariant-loop-at
 invariant-loop-at g l =
     record {
-      fed : Feeds (place_over g.C.Meaning.Rules.meaning l.keys (g.D.Disk.seen l.fn.disk).size)
+      fed : Feeds (place_with (words_seen l.own) g.C.Meaning.Rules.meaning l.keys (g.D.Disk.seen l.fn.disk).size)
           (seen_of l.fn.reader.session)
           (seen_of l.reader.session) l.fn.reader.line l.reader.line (take l.at l.bytes)
           (g.K.Sink.seen l.fn.out).got (g.K.Sink.seen l.out).got

@@ -1,5 +1,6 @@
 -- Each turn of the run goes on from what was reached, or ends it.
-use Rattle.vino_top.specs.Run.{place_over}
+use Rattle.script_text.specs.Syntax.{words_seen}
+use Rattle.vino_top.specs.Run.{place_with}
 use Rattle.vino_top.specs.Standing.{seen_of}
 use Rattle.vino_base.specs.Streams.{not_used, used_then}
 use Rattle.std.proofs.Common.{arith, true, false, ◌==◌, length, take, drop, ◌≤◌, ◌≡◌, ◌-◌, ◌++◌}
@@ -15,7 +16,8 @@ loop-left-init g c =
     record {
       reached =
           reached_first
-          (place_over g.C.Meaning.Rules.meaning c.args.loading.keys.now (g.D.Disk.seen c.args.disk.now).size)
+          (place_with (words_seen c.args.loading.own.now) g.C.Meaning.Rules.meaning
+          c.args.loading.keys.now (g.D.Disk.seen c.args.disk.now).size)
           (seen_of c.args.reader.now.session) _ _ _ c.args.reader.now.line c.requires.line;
       within = c.requires.within;
       going = c.requires.begun.refused;
@@ -51,7 +53,8 @@ feed-requires g c =
 
 pub returns-in-Err-clause-ran : goal.returns-in-Err-clause-ran
 returns-in-Err-clause-ran g c = λ other more.
-    (ran_fault (place_over g.C.Meaning.Rules.meaning c.args.loading.keys.now (g.D.Disk.seen c.args.disk.now).size)
+    (ran_fault (place_with (words_seen c.args.loading.own.now) g.C.Meaning.Rules.meaning
+    c.args.loading.keys.now (g.D.Disk.seen c.args.disk.now).size)
     (seen_of c.args.reader.now.session) (seen_of c.loop-left.reader.session) _ (g.S.Source.seen
     c.loop-left.src) _ _ _ _ _ c.loop-left.reader.line c.loop-left.left c.requires.begun
     c.loop-left.invariant.reached c.loop-left.invariant.going c.loop-left-test.true
@@ -59,7 +62,8 @@ returns-in-Err-clause-ran g c = λ other more.
 
 pub returns-clause-ran : goal.returns-clause-ran
 returns-clause-ran g c = λ other more.
-    (ran_over (place_over g.C.Meaning.Rules.meaning c.args.loading.keys.now (g.D.Disk.seen c.args.disk.now).size)
+    (ran_over (place_with (words_seen c.args.loading.own.now) g.C.Meaning.Rules.meaning
+    c.args.loading.keys.now (g.D.Disk.seen c.args.disk.now).size)
     (seen_of c.args.reader.now.session) (seen_of c.loop-left.reader.session) _ _ _ _ _ _
     c.loop-left.reader.line c.loop-left.left c.requires.begun c.loop-left.invariant.reached
     (omega (arith, c.loop-left-test.false)) c.loop-left.invariant.going)
@@ -67,7 +71,8 @@ returns-clause-ran g c = λ other more.
 pub returns-in-Ok-eq0-clause-ran : goal.returns-in-Ok-eq0-clause-ran
 returns-in-Ok-eq0-clause-ran g c = λ other more.
     let none = rw c.in-Ok-eq0.field-0-test at c.in-Ok-eq0.ensures.contents in
-    (ran_finish (place_over g.C.Meaning.Rules.meaning c.args.loading.keys.now (g.D.Disk.seen c.args.disk.now).size)
+    (ran_finish (place_with (words_seen c.args.loading.own.now) g.C.Meaning.Rules.meaning
+    c.args.loading.keys.now (g.D.Disk.seen c.args.disk.now).size)
     (seen_of c.args.reader.now.session) (seen_of c.loop-left.reader.session) _ _ _ _
     _ _ _ _ c.loop-left.reader.line c.loop-left.left c.finish.result c.requires.begun
     c.loop-left.invariant.reached c.loop-left.invariant.going c.loop-left-test.true none.0
@@ -84,7 +89,8 @@ returns-in-Ok-eq0-clause-ran g c = λ other more.
 pub returns-in-Ok-eq0-clause-broke : goal.returns-in-Ok-eq0-clause-broke
 returns-in-Ok-eq0-clause-broke g c = λ four.
     let none = rw c.in-Ok-eq0.field-0-test at c.in-Ok-eq0.ensures.contents in
-    (broke_finish (place_over g.C.Meaning.Rules.meaning c.args.loading.keys.now (g.D.Disk.seen c.args.disk.now).size)
+    (broke_finish (place_with (words_seen c.args.loading.own.now) g.C.Meaning.Rules.meaning
+    c.args.loading.keys.now (g.D.Disk.seen c.args.disk.now).size)
     (seen_of c.args.reader.now.session) (seen_of c.loop-left.reader.session) _ _ _ _ _ _ _ _
     c.loop-left.reader.line c.loop-left.left c.requires.begun c.loop-left.invariant.reached
     c.loop-left.invariant.going c.loop-left-test.true none.0
@@ -117,7 +123,8 @@ loop-left-preserved g c =
     record {
       reached =
           reached_more
-          (place_over g.C.Meaning.Rules.meaning c.args.loading.keys.now (g.D.Disk.seen c.args.disk.now).size)
+          (place_with (words_seen c.args.loading.own.now) g.C.Meaning.Rules.meaning
+          c.args.loading.keys.now (g.D.Disk.seen c.args.disk.now).size)
           (seen_of c.args.reader.now.session) (seen_of c.loop-left.reader.session)
           (seen_of c.feed.new.reader.session) _ _ _ _ _ _ _ _ _ c.loop-left.reader.line
           c.feed.new.reader.line c.loop-left.left c.in-Ok.n (take c.in-Ok.n c.read.new.buf)
@@ -153,7 +160,8 @@ returns-in-Err-feed-clause-broke g c = λ is.
     omega (arith, length-take c.in-Ok.n c.read.new.buf) in
     let piece = piece_is c.in-Ok.n c.loop-left.left c.min-script.result c.read.new.buf
     (drop c.min-room.result c.loop-left.buf) c.min-script.ensures within in
-    (broke_fed (place_over g.C.Meaning.Rules.meaning c.args.loading.keys.now (g.D.Disk.seen c.args.disk.now).size)
+    (broke_fed (place_with (words_seen c.args.loading.own.now) g.C.Meaning.Rules.meaning
+    c.args.loading.keys.now (g.D.Disk.seen c.args.disk.now).size)
     (seen_of c.args.reader.now.session) (seen_of c.loop-left.reader.session) _ _ _ _ _ _ _
     _ _ c.loop-left.reader.line c.loop-left.left c.in-Ok.n (take c.in-Ok.n c.read.new.buf) _
     c.in-Err-feed.stop
@@ -176,7 +184,8 @@ returns-in-Err-feed-clause-lacked g c = λ is.
     omega (arith, length-take c.in-Ok.n c.read.new.buf) in
     let piece = piece_is c.in-Ok.n c.loop-left.left c.min-script.result c.read.new.buf
     (drop c.min-room.result c.loop-left.buf) c.min-script.ensures within in
-    (lacked_fed (place_over g.C.Meaning.Rules.meaning c.args.loading.keys.now (g.D.Disk.seen c.args.disk.now).size)
+    (lacked_fed (place_with (words_seen c.args.loading.own.now) g.C.Meaning.Rules.meaning
+    c.args.loading.keys.now (g.D.Disk.seen c.args.disk.now).size)
     (seen_of c.args.reader.now.session) (seen_of c.loop-left.reader.session) _ _ _ _ _ _ _
     _ _ c.loop-left.reader.line c.loop-left.left c.in-Ok.n (take c.in-Ok.n c.read.new.buf) _
     c.in-Err-feed.stop
@@ -200,13 +209,15 @@ returns-then-reader-clause-ran g c = λ other more.
     let piece = piece_is c.in-Ok.n c.loop-left.left c.min-script.result c.read.new.buf
     (drop c.min-room.result c.loop-left.buf) c.min-script.ensures within in
     let reached = reached_more
-    (place_over g.C.Meaning.Rules.meaning c.args.loading.keys.now (g.D.Disk.seen c.args.disk.now).size)
+    (place_with (words_seen c.args.loading.own.now) g.C.Meaning.Rules.meaning
+    c.args.loading.keys.now (g.D.Disk.seen c.args.disk.now).size)
     (seen_of c.args.reader.now.session) (seen_of c.loop-left.reader.session)
     (seen_of c.feed.new.reader.session) _ _ _ _ _ _ _ _ _ c.loop-left.reader.line
     c.feed.new.reader.line c.loop-left.left c.in-Ok.n (take c.in-Ok.n c.read.new.buf)
     c.loop-left.invariant.reached c.loop-left-test.true size most c.in-Ok.ensures.contents.0
     (rw (piece, same) at c.in_default.ensures.fed.contents) in
-    (ran_stopped (place_over g.C.Meaning.Rules.meaning c.args.loading.keys.now (g.D.Disk.seen c.args.disk.now).size)
+    (ran_stopped (place_with (words_seen c.args.loading.own.now) g.C.Meaning.Rules.meaning
+    c.args.loading.keys.now (g.D.Disk.seen c.args.disk.now).size)
     (seen_of c.args.reader.now.session) (seen_of c.feed.new.reader.session) _ _ _ _ _
     _ c.feed.new.reader.line (c.loop-left.left - c.in-Ok.n) c.requires.begun reached
     c.if-reader.true)

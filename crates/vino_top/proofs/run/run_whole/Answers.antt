@@ -1,23 +1,25 @@
 -- What the line writes was written, or a part of it; or there was no memory for it.
 use Rattle.std.proofs.Common.{arith}
 use Rattle.vino_base.specs.Streams.{not_used}
-use Rattle.vino_top.specs.Run.{place_over, left_in}
+use Rattle.script_text.specs.Syntax.{words_seen}
+use Rattle.vino_top.specs.Run.{place_with, left_in}
 use Rattle.vino_top.specs.Standing.{seen_of}
 use Rattle.vino_top.proofs.RunLemmas.{line_written, line_lacks, ok_anyway}
 use Rattle.vino_top.proofs.run.run_whole.Goals as goal
 
-pub run_line-requires-clause-room : goal.run_line-requires-clause-room
-run_line-requires-clause-room g c = omega (arith, c.requires.can.lines)
+pub run_line_with-requires-clause-room : goal.run_line_with-requires-clause-room
+run_line_with-requires-clause-room g c = omega (arith, c.requires.can.lines)
 
-pub run_line-requires-clause-within : goal.run_line-requires-clause-within
-run_line-requires-clause-within g c = c.requires.can.within
+pub run_line_with-requires-clause-within : goal.run_line_with-requires-clause-within
+run_line_with-requires-clause-within g c = c.requires.can.within
 
 pub returns-in-Err-clause-taken : goal.returns-in-Err-clause-taken
 returns-in-Err-clause-taken g c =
     record {
       line = tt;
       contents =
-          line_lacks (place_over g.C.Meaning.Rules.meaning c.args.keys.now (g.D.Disk.seen c.args.disk.now).size)
+          line_lacks (place_with (words_seen c.args.own.now) g.C.Meaning.Rules.meaning
+          c.args.keys.now (g.D.Disk.seen c.args.disk.now).size)
           c.args.text.now (seen_of c.args.reader.now.session) _ _ _ c.in-Err.ensures.same_disk
           c.in-Err.ensures.err.1;
       sink = not_used _;
@@ -28,9 +30,10 @@ returns-clause-taken g c =
     record {
       line = ok_anyway c.write_lines.result c.requires.fresh;
       contents =
-          line_written (place_over g.C.Meaning.Rules.meaning c.args.keys.now (g.D.Disk.seen c.args.disk.now).size)
-          c.args.text.now (seen_of c.args.reader.now.session) (seen_of c.run_line.new.self)
-          (left_in c.run_line.new.out) _ _ _ _ c.write_lines.result
-          c.in_default.ensures.ok c.run_line.ensures.counted c.write_lines.ensures.contents;
+          line_written (place_with (words_seen c.args.own.now) g.C.Meaning.Rules.meaning
+          c.args.keys.now (g.D.Disk.seen c.args.disk.now).size)
+          c.args.text.now (seen_of c.args.reader.now.session) (seen_of c.run_line_with.new.self)
+          (left_in c.run_line_with.new.out) _ _ _ _ c.write_lines.result
+          c.in_default.ensures.ok c.run_line_with.ensures.counted c.write_lines.ensures.contents;
       sink = c.write_lines.ensures.sink;
     }

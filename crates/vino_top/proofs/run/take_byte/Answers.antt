@@ -3,7 +3,8 @@ use Rattle.vino_top.specs.Standing.{seen_of}
 use Rattle.std.proofs.Common.{arith, sym, ◌∙◌}
 use Rattle.vino_base.specs.Streams.{not_used}
 use Rattle.vino_top.proofs.LineLemmas.{byte_goes, newline_ends, newline_short, longest_ends}
-use Rattle.vino_top.specs.Run.{place_over}
+use Rattle.script_text.specs.Syntax.{words_seen}
+use Rattle.vino_top.specs.Run.{place_with}
 use Rattle.vino_top.proofs.RunLemmas.{fed_byte, line_ended}
 use Rattle.vino_top.proofs.run.take_byte.Goals as goal
 
@@ -27,7 +28,8 @@ returns-in-Line-clause-fed g c =
     let taken = c.end_line.ensures.taken in
     record {
       contents =
-          line_ended (place_over g.C.Meaning.Rules.meaning c.args.keys.now (g.D.Disk.seen c.args.disk.now).size)
+          line_ended (place_with (words_seen c.args.own.now) g.C.Meaning.Rules.meaning
+          c.args.keys.now (g.D.Disk.seen c.args.disk.now).size)
           c.args.reader.now.line c.push.new.self c.end_line.new.reader.line c.args.byte
           (seen_of c.args.reader.now.session) (seen_of c.end_line.new.reader.session) _ _ _ _
           c.end_line.result ends.0 ends.1
@@ -42,7 +44,8 @@ returns-in-More-clause-fed g c =
     record {
       contents =
           rw goes.1 (fed_byte
-          (place_over g.C.Meaning.Rules.meaning c.args.keys.now (g.D.Disk.seen c.args.disk.now).size)
+          (place_with (words_seen c.args.own.now) g.C.Meaning.Rules.meaning
+          c.args.keys.now (g.D.Disk.seen c.args.disk.now).size)
           (seen_of c.args.reader.now.session) c.args.reader.now.line c.args.byte _ _ goes.0);
       sink = not_used _;
     }
@@ -52,11 +55,13 @@ returns-in-TooLong-clause-fed g c =
     let ends = longest_ends c.args.reader.now.line c.push.new.self c.args.byte
     (sym c.push.ensures.answer ∙ c.in-TooLong.is) c.requires.short c.push.ensures.line in
     let taken =
-    c.end_long.ensures.taken (place_over g.C.Meaning.Rules.meaning c.args.keys.now (g.D.Disk.seen c.args.disk.now).size)
+    c.end_long.ensures.taken (place_with (words_seen c.args.own.now) g.C.Meaning.Rules.meaning
+    c.args.keys.now (g.D.Disk.seen c.args.disk.now).size)
     (g.D.Disk.seen c.args.disk.now) in
     record {
       contents =
-          line_ended (place_over g.C.Meaning.Rules.meaning c.args.keys.now (g.D.Disk.seen c.args.disk.now).size)
+          line_ended (place_with (words_seen c.args.own.now) g.C.Meaning.Rules.meaning
+          c.args.keys.now (g.D.Disk.seen c.args.disk.now).size)
           c.args.reader.now.line _ c.end_long.new.reader.line c.args.byte
           (seen_of c.args.reader.now.session) (seen_of c.end_long.new.reader.session) _ _ _ _
           c.end_long.result ends.0 ends.1
