@@ -175,7 +175,8 @@ pub(crate) fn settle_begun<C: Calls, B: Policy, D: Disk>(
     settle_newest(running, p, disk, trace);
 }
 
-/// All steps that can be taken.
+/// All steps that can be taken: none where no call waits.
+#[inline]
 pub(crate) fn settle_all<C: Calls, B: Policy, D: Disk>(
     running: &mut Running<C, B>,
     disk: &mut D,
@@ -186,5 +187,8 @@ pub(crate) fn settle_all<C: Calls, B: Policy, D: Disk>(
         (kernel_moment running.old trace.old.notes (D.seen disk.old))
         (kernel_moment running.new trace.new.notes (D.seen disk.new)) }
 {
+    if running.order.is_empty() {
+        return;
+    }
     settle(running, STEPS, disk, trace);
 }
