@@ -58,11 +58,9 @@ impl<C: Calls, B: Policy> ScriptRun<C, B> {
         ensures session { IfOk result (λ r. r.session ≡ session) }
         ensures line { IfOk result (λ r. r.line ≡ []) }
     {
-        Ok(ScriptRun {
-            session,
-            line: LineBuf::new(alloc)?,
-            out: Buffers::new(alloc)?,
-        })
+        let line = LineBuf::new(alloc)?;
+        let out = Buffers::new(alloc)?;
+        Ok(ScriptRun { session, line, out })
     }
 }
 
