@@ -7,7 +7,7 @@ in `vino_host.h`: a call that misbehaves is dropped, and segment and table are a
 from __future__ import annotations
 
 import ctypes
-from ctypes import POINTER, c_size_t, c_uint8, c_uint32
+from ctypes import POINTER, c_char_p, c_size_t, c_uint8, c_uint32
 from typing import Callable, NamedTuple, Optional, Sequence
 
 SEGMENT = 4096
@@ -50,15 +50,16 @@ class _Answer(ctypes.Structure):
 class Refused(Exception):
     """An image was refused: `code` is the number of its L code, `place` that of the instruction."""
 
-    def __init__(self, code: int, place: int) -> None:
-        super().__init__(f"L{code} {place}")
+    def __init__(self, code: int, place: int, sentence: str) -> None:
+        super().__init__(f"L{code} {place}: {sentence}")
         self.code = code
         self.place = place
 
 
 class Answer(NamedTuple):
-    """How a call ended: 0 it returned; else the cause for which it was dropped."""
+    """How a call ended: `kind` 0: it returned; else the cause for which it was dropped. `sentence` says it in words."""
 
+    sentence: str
     kind: int
     detail: int
     steps: int
@@ -66,12 +67,24 @@ class Answer(NamedTuple):
     given: bytes
 
 
+def _word(value: int) -> int:
+    if not 0 <= value < 2**32:
+        raise ValueError(f"{value} is no word: it must be 0 to 2**32 - 1")
+    return value
+
+
+def _key(key: bytes) -> ctypes.Array[c_uint8]:
+    if len(key) != 32:
+        raise ValueError(f"a key has 32 bytes, and this one {len(key)}")
+    return (c_uint8 * 32)(*key)
+
+
 class Table:
     """Words that plug-ins read by id 0 and change by id 1."""
 
     def __init__(self, values: Sequence[int]) -> None:
         """Makes a table of these words, each 0 to 2**32 - 1."""
-        self._words = (_Word * len(values))(*(_Word(value, 0, 0) for value in values))
+        self._words = (_Word * len(values))(*(_Word(_word(value), 0, 0) for value in values))
 
     def values(self) -> list[int]:
         """The words."""
@@ -101,7 +114,7 @@ class Plugin:
         """Calls the plug-in. `host` answers ids 2 to 15 with a word, or with None, which refuses."""
         fresh = 0 if self._loaded[KEEP_AT] == 1 and self._called else 1
         loaded, size = self._loaded, len(self._loaded)
-        request = _Request(1, point, limit, fresh, *arguments)
+        request = _Request(1, point, limit, fresh, *map(_word, arguments))
         answer = _Answer()
         words = table._words
         data = (c_uint8 * max(1, len(fed)))(*fed)
@@ -114,11 +127,18 @@ class Plugin:
         if answer.kind == RETURNED:
             self._called = True
             given = bytes(self._segment[BYTES_AT : BYTES_AT + answer.given])
-        return Answer(answer.kind, answer.detail, answer.steps, (answer.r0, answer.r1, answer.r2, answer.r3), given)
+        sentence = _sentence(self._library.vino_sentence, answer.kind)
+        return Answer(sentence, answer.kind, answer.detail, answer.steps, (answer.r0, answer.r1, answer.r2, answer.r3), given)
 
     def check(self) -> bool:
         """Whether the plug-in is still what was loaded."""
         return self._library.vino_check(self._loaded, len(self._loaded)) == 0
+
+
+def _sentence(put: Callable[..., None], number: int) -> str:
+    text = ctypes.create_string_buffer(64)
+    put(number, text)
+    return text.value.decode()
 
 
 class Library:
@@ -139,17 +159,20 @@ class Library:
             POINTER(c_uint8), c_size_t, POINTER(_Call), c_uint32, c_uint32,
             POINTER(c_uint8), POINTER(_Word), c_size_t, POINTER(_Answer),
         ]  # fmt: skip
-        for function in ("vino_load", "vino_check", "vino_begin", "vino_resume"):
-            getattr(self._library, function).restype = c_uint32
+        for name in ("vino_load", "vino_check", "vino_begin", "vino_resume"):
+            getattr(self._library, name).restype = c_uint32
+        for name in ("vino_sentence", "vino_refusal_sentence"):
+            getattr(self._library, name).argtypes = [c_uint32, c_char_p]
+            getattr(self._library, name).restype = None
 
     def load(self, image: bytes, first: bytes, second: Optional[bytes] = None) -> Plugin:
         """Loads a sealed image under one key of 32 bytes, or two. Raises `Refused`, or `MemoryError`."""
-        keys = _Keys(2 if second else 1, (c_uint8 * 32)(*first), (c_uint8 * 32)(*(second or bytes(32))))
+        keys = _Keys(2 if second else 1, _key(first), _key(second or bytes(32)))
         data = (c_uint8 * max(1, len(image)))(*image)
         loaded, place = (c_uint8 * max(1, len(image)))(), c_uint32()  # an image never needs more bytes than it has
         code = self._library.vino_load(keys, data, len(image), loaded, len(loaded), place)
         if code == NO_MEMORY:
             raise MemoryError
         if code:
-            raise Refused(code, place.value)
+            raise Refused(code, place.value, _sentence(self._library.vino_refusal_sentence, code))
         return Plugin(self._library, loaded)
