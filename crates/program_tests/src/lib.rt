@@ -33,15 +33,11 @@ mod tests {
         put_last,
     };
     use mem_disk::{Disk, Failed, MemDisk, MemSink, MemSource, Source};
-    use sha2::{Digest, Sha256};
     use std::alloc::{AllocError, Global};
     use std::cell::Cell;
     use std::rc::Rc;
     use std::test::Fail;
-    use vino_top::{demo_script, vino};
-
-    /// The key of the generated script.
-    const ZEROS: &str = "0000000000000000000000000000000000000000000000000000000000000000";
+    use vino_top::vino;
 
     const KEY: &str = "000102030405060708090a0b0c0d0e0f101112131415161718191a1b1c1d1e1f";
 
@@ -165,26 +161,9 @@ mod tests {
         run_source(alloc, &["run", KEY], &mut Trickle { inner })
     }
 
-    /// Runs the script that `demo 0` generates.
-    fn run_generated(alloc: Global) -> Result<Ran, Fail> {
-        let Ok(script) = demo_script(alloc, 0) else {
-            return Err(AllocError.into());
-        };
-        let mut source = MemSource::new(script, Vec::new(alloc));
-        run_source(alloc, &["run", ZEROS], &mut source)
-    }
-
     /// How many lines these bytes are.
     fn count_lines(bytes: &[u8]) -> usize {
         bytes.iter().filter(|byte| **byte == b'\n').count()
-    }
-
-    /// The digest of these bytes in hex digits, and a newline.
-    fn digest_line(bytes: &[u8]) -> [u8; 65] {
-        let mut line = [b'\n'; 65];
-        let digest = Sha256::digest(bytes);
-        let _ = hex::encode_to_slice(digest.as_slice(), &mut line[..64]);
-        line
     }
 
     const STEPS: &str = "boot\nspawn 0\nyield 0\nyield 1\ntick\n";
@@ -358,24 +337,6 @@ mod tests {
     }
 
     #[test]
-    fn demo_tells_of_its_own_script(rt: HostRuntime) -> Result<(), Fail> {
-        let known = run_failing(rt.alloc(), &["demo", "0"], "", [0; 3])?;
-        let ran = run_generated(rt.alloc())?;
-        assert_eq!(rt; known.status, 0);
-        assert_eq!(rt; ran.status, 0);
-        let lines = count_lines(ran.written.bytes());
-        let begins = format!(in rt.alloc(); "demo 0 lines {lines} ok ")?;
-        assert!(rt; known.written.bytes().starts_with(begins.as_bytes()));
-        assert!(rt;
-            known
-                .written
-                .bytes()
-                .ends_with(&digest_line(ran.written.bytes()))
-        );
-        Ok(())
-    }
-
-    #[test]
     fn a_drop_undoes_the_newest_change_first(rt: HostRuntime) -> Result<(), Fail> {
         let alloc = rt.alloc();
         let known = Rc::new(alloc, Cell::new(Told::nothing()))?;
@@ -407,27 +368,6 @@ mod tests {
         00b000000010000000000000001010000000000000102000006000000170000000b000000010700000000000\
         00b070707000000001a000000000000008211e4388f02474685ac91110290a570ee60e9a820be0de1033cf87\
         9e02262ce";
-
-    #[test]
-    fn a_failing_sink_or_source_gives_its_status(rt: HostRuntime) -> Result<(), Fail> {
-        let usage = run_failing(rt.alloc(), &["fly"], STEPS, [0, 1, 0])?;
-        assert_eq!(rt; usage.status, 4);
-        assert!(rt; usage.written.bytes().is_empty());
-        let cases = [
-            ("asm", "ret\n"),
-            ("dis", "5647523001000000000000001a00000000000000\n"),
-            ("asm", "fly r1\n"),
-        ];
-        for (word, input) in cases {
-            let unread = run_failing(rt.alloc(), &[word], input, [1, 0, 0])?;
-            assert_eq!(rt; unread.status, 3, "on {word} {input:?}");
-            assert!(rt; unread.written.bytes().is_empty(), "on {word} {input:?}");
-            let unwritten = run_failing(rt.alloc(), &[word], input, [0, 1, 0])?;
-            assert_eq!(rt; unwritten.status, 4, "on {word} {input:?}");
-            assert!(rt; unwritten.written.bytes().is_empty(), "on {word} {input:?}");
-        }
-        Ok(())
-    }
 
     #[test]
     fn stops_at_a_failing_read(rt: HostRuntime) -> Result<(), Fail> {
