@@ -3,3 +3,4 @@ pub mod Asked
 pub mod Steps
 pub mod Sights
 pub mod Rows
+pub mod Holders

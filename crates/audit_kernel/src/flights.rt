@@ -1,6 +1,6 @@
 //! Calls in flight, and where their histories lead.
 
-ghost use Rattle.std.specs.Prelude.{◌≡◌, ◌==◌, ℕ, [], false, Option, Some, None};
+ghost use Rattle.std.specs.Prelude.{◌≡◌, ◌==◌, ◌++◌, ℕ, [], false, Option, Some, None};
 ghost use Rattle.std.specs.Prelude.{IfOk, OnOk, cond, map, option_map, slice_index_or, length};
 ghost use Rattle.kernel_model.specs.AllCalls.{all_calls};
 ghost use Rattle.kernel_model.specs.Kernel as model;
@@ -61,7 +61,7 @@ pub(crate) fn put(
 }
 
 /// No needs yet, with room for those of most pieces.
-fn no_needs(alloc: Global) -> Result<Vec<Need>, NoMemory>
+pub(crate) fn no_needs(alloc: Global) -> Result<Vec<Need>, NoMemory>
     ensures { IfOk result (λ needs. needs.items ≡ []) }
 {
     match Vec::with_capacity(alloc, USUAL_NEEDS) {
@@ -70,8 +70,39 @@ fn no_needs(alloc: Global) -> Result<Vec<Need>, NoMemory>
     }
 }
 
-/// The objects that the next piece of a call needs.
+/// The objects that the next piece of a call needs, behind those that the list has.
 #[tactic(auto, unfolding(audit_pieces::specs::Stores::objects_of))]
+pub(crate) fn put_base(
+    base: &mut Vec<Need>,
+    setting: &Setting,
+    store: &Store,
+    p: u8,
+    stage: &Stage,
+) -> Result<(), NoMemory>
+    ensures { OnOk result (base.new.items ≡ base.old.items
+        ++ all_calls.need (world_of setting.now.world) (objects_of store.now) p
+        (stage_of stage.now)) }
+{
+    let scene = Scene {
+        alloc: setting.alloc,
+        world: &setting.world,
+        accounts: &store.accounts,
+        things: &store.things,
+    };
+    let done = needs(base, &scene, p, stage);
+    let Scene {
+        alloc: _alloc,
+        world: _world,
+        accounts: _accounts,
+        things: _things,
+    } = scene;
+    match done {
+        Ok(()) => Ok(()),
+        Err(_) => Err(NoMemory),
+    }
+}
+
+/// The objects that the next piece of a call needs.
 pub(crate) fn base_of(
     setting: &Setting,
     store: &Store,
@@ -82,23 +113,8 @@ pub(crate) fn base_of(
         (objects_of store.now) p (stage_of stage.now)) }
 {
     let mut base = no_needs(setting.alloc)?;
-    let scene = Scene {
-        alloc: setting.alloc,
-        world: &setting.world,
-        accounts: &store.accounts,
-        things: &store.things,
-    };
-    let done = needs(&mut base, &scene, p, stage);
-    let Scene {
-        alloc: _alloc,
-        world: _world,
-        accounts: _accounts,
-        things: _things,
-    } = scene;
-    match done {
-        Ok(()) => Ok(base),
-        Err(_) => Err(NoMemory),
-    }
+    put_base(&mut base, setting, store, p, stage)?;
+    Ok(base)
 }
 
 /// The point that the next piece of a call asks.

@@ -1,7 +1,7 @@
 //! What calls hold and need, and what blocks them.
 
-ghost use Rattle.std.specs.Prelude.{◌≡◌, ◌<◌, ◌==◌, ◌&&◌, not, ℕ, List};
-ghost use Rattle.std.specs.Prelude.{None, Some, IfOk, option_copied, option_map, slice_index_or};
+ghost use Rattle.std.specs.Prelude.{◌≡◌, ◌<◌, ◌==◌, ◌&&◌, ◌++◌, ◌∷◌, [], not, ℕ, List, cond, find};
+ghost use Rattle.std.specs.Prelude.{None, Some, IfOk, OnOk, option_copied, option_map, slice_index_or};
 ghost use Rattle.kernel_model.specs.AllCalls.{all_calls};
 ghost use Rattle.kernel_model.specs.Blocking as blocking;
 ghost use Rattle.kernel_model.specs.Levels as calls;
@@ -10,13 +10,18 @@ ghost use Rattle.kernel_model.specs.Locks as locks;
 ghost use Rattle.audit_levels.specs.Levels.{levels_of, config_of};
 ghost use Rattle.audit_pieces.specs.Stores.{objects_of, page_of};
 ghost use Rattle.audit_replay.specs.Traces.{trace_of};
+ghost use Rattle.audit_kernel.specs.Holders.{AreHolders};
 ghost use Rattle.audit_kernel.specs.Runs.{kernel_of, kept_trace, blocker_of, hindrance_of, AreKept};
 
-use crate::flights::base_of;
+use crate::flights::{no_needs, put_base};
 use crate::{Blocker, Flight, Hindrance, Run};
+use arrayvec::ArrayVec;
 use audit_levels::{Level, Place, hold_of, lock_user, next_needs};
 use audit_replay::Trace;
 use kernel_model::{Held, Mode, Need, NoMemory, Object};
+
+/// The processes whose call has a level: at most all 16.
+pub(crate) type Holders = ArrayVec<u8, 16>;
 
 /// The trace that is kept with a call.
 fn kept(flight: Option<&Flight>) -> Option<&Trace>
@@ -136,6 +141,20 @@ fn user_hindrance(q: u8, object: Object, holder: Option<u8>) -> Option<Hindrance
     }
 }
 
+/// A process behind the others, where it is to be there.
+fn add_if(holders: &mut Holders, q: u8, there: bool) -> Result<(), NoMemory>
+    ensures { OnOk result (holders.new.items ≡ holders.old.items ++ cond there (q ∷ []) []) }
+{
+    if there {
+        match holders.try_push(q) {
+            Ok(()) => Ok(()),
+            Err(_) => Err(NoMemory),
+        }
+    } else {
+        Ok(())
+    }
+}
+
 impl Run {
     /// The call of a process, if one is in flight.
     pub(crate) fn flight(&self, p: u8) -> Option<&Flight>
@@ -165,16 +184,35 @@ impl Run {
         levels_in(self.trace(p))
     }
 
-    /// Whether the call of a process holds an object in conflict with a mode. One without a level
-    /// holds nothing.
-    fn is_in_conflict(&self, q: u8, object: Object, mode: Mode) -> bool
+    /// The processes whose call has a level, in order.
+    pub(crate) fn holders(&self) -> Result<Holders, NoMemory>
+        ensures { IfOk result (λ hs. AreHolders (kernel_of self.now) hs.items) }
+    {
+        let mut holders = Holders::new();
+        for q in 0..16u8 {
+            add_if(&mut holders, q, self.has_level(q))?;
+        }
+        Ok(holders)
+    }
+
+    /// Whether the call of a process holds an object in conflict with a mode.
+    fn is_placed_holder(&self, q: u8, object: Object, mode: Mode) -> bool
         requires kept { AreKept self.now }
         requires place { q < 16 }
         ensures { result ≡ locks.hinders object mode
             (blocking.holds all_calls (kernel_of self.now) q) }
     {
-        if self.has_level(q) {
-            hinders(self.levels(q), object, mode)
+        hinders(self.levels(q), object, mode)
+    }
+
+    /// The same of any process: none above 15 has a call.
+    fn is_in_conflict(&self, q: u8, object: Object, mode: Mode) -> bool
+        requires kept { AreKept self.now }
+        ensures { result ≡ locks.hinders object mode
+            (blocking.holds all_calls (kernel_of self.now) q) }
+    {
+        if q < 16 {
+            self.is_placed_holder(q, object, mode)
         } else {
             false
         }
@@ -183,7 +221,6 @@ impl Run {
     /// Whether a process is another than p, and its call holds an object in conflict with a mode.
     fn is_holder(&self, p: u8, q: u8, object: Object, mode: Mode) -> bool
         requires kept { AreKept self.now }
-        requires place { q < 16 }
         ensures { result ≡ (not (q == p) && locks.hinders object mode
             (blocking.holds all_calls (kernel_of self.now) q)) }
     {
@@ -194,18 +231,33 @@ impl Run {
         }
     }
 
-    /// The lowest process other than p one of whose levels holds an object in conflict with a mode.
-    fn lowest_holder(&self, p: u8, object: Object, mode: Mode) -> Option<u8>
+    /// The first of these processes other than p one of whose levels holds an object in conflict
+    /// with a mode.
+    fn first_holder(&self, holders: &[u8], p: u8, object: Object, mode: Mode) -> Option<u8>
         requires kept { AreKept self.now }
+        ensures { result ≡ find (λ q. not (q == p) && locks.hinders object mode
+            (blocking.holds all_calls (kernel_of self.now) q)) holders.now }
+    {
+        match holders {
+            [] => None,
+            [q, rest @ ..] => {
+                if self.is_holder(p, *q, object, mode) {
+                    Some(*q)
+                } else {
+                    self.first_holder(rest, p, object, mode)
+                }
+            }
+        }
+    }
+
+    /// The lowest process other than p one of whose levels holds an object in conflict with a mode.
+    fn lowest_holder(&self, holders: &[u8], p: u8, object: Object, mode: Mode) -> Option<u8>
+        requires kept { AreKept self.now }
+        requires all { AreHolders (kernel_of self.now) holders.now }
         ensures { result ≡ locks.lowest_holder (blocking.holds all_calls (kernel_of self.now)) p
             object mode }
     {
-        for q in 0..16u8 {
-            if self.is_holder(p, q, object, mode) {
-                return Some(q);
-            }
-        }
-        None
+        self.first_holder(holders, p, object, mode)
     }
 
     /// The process whose user lock an object is.
@@ -220,14 +272,15 @@ impl Run {
     }
 
     /// What hinders one need of a step of p; the user locks of q don't.
-    fn hindrance(&self, p: u8, q: u8, need: Need) -> Option<Hindrance>
+    fn hindrance(&self, holders: &[u8], p: u8, q: u8, need: Need) -> Option<Hindrance>
         requires kept { AreKept self.now }
+        requires all { AreHolders (kernel_of self.now) holders.now }
         ensures { option_map hindrance_of result ≡ locks.hindrance_by
             (objects_of self.now.store).things.lock q need
             (locks.lowest_holder (blocking.holds all_calls (kernel_of self.now)) p need.object
             need.mode) }
     {
-        match self.lowest_holder(p, need.object, need.mode) {
+        match self.lowest_holder(holders, p, need.object, need.mode) {
             Some(holder) => Some(Hindrance {
                 object: need.object,
                 holder,
@@ -244,17 +297,18 @@ impl Run {
     }
 
     /// The first of these needs of a step of p that is hindered; the user locks of q don't.
-    fn first_hindrance(&self, p: u8, q: u8, needs: &[Need]) -> Option<Hindrance>
+    fn first_hindrance(&self, holders: &[u8], p: u8, q: u8, needs: &[Need]) -> Option<Hindrance>
         requires kept { AreKept self.now }
+        requires all { AreHolders (kernel_of self.now) holders.now }
         ensures { option_map hindrance_of result ≡ locks.first_hindrance
             (blocking.holds all_calls (kernel_of self.now))
             (objects_of self.now.store).things.lock p q needs.now }
     {
         match needs {
             [] => None,
-            [need, rest @ ..] => match self.hindrance(p, q, *need) {
+            [need, rest @ ..] => match self.hindrance(holders, p, q, *need) {
                 Some(hindrance) => Some(hindrance),
-                None => self.first_hindrance(p, q, rest),
+                None => self.first_hindrance(holders, p, q, rest),
             },
         }
     }
@@ -279,18 +333,35 @@ impl Run {
         }
     }
 
+    /// What the next step of the call of a process needs, in place of what stands in `needs`.
+    fn put_needs(&self, p: u8, needs: &mut Vec<Need>) -> Result<(), NoMemory>
+        requires kept { AreKept self.now }
+        ensures { OnOk result (needs.new.items ≡ blocking.needs all_calls (kernel_of self.now) p) }
+    {
+        needs.clear();
+        match self.flight(p) {
+            None => Ok(()),
+            Some(flight) => match &flight.graft {
+                None => {
+                    put_base(needs, &self.setting, &self.store, p, &flight.stage)?;
+                    Ok(())
+                }
+                Some(_) => {
+                    *needs = self.needs_at(p, self.trace(p))?;
+                    Ok(())
+                }
+            },
+        }
+    }
+
     /// What the next step of the call of a process needs.
     pub(crate) fn needs(&self, p: u8) -> Result<Vec<Need>, NoMemory>
         requires kept { AreKept self.now }
         ensures { IfOk result (λ ns. ns.items ≡ blocking.needs all_calls (kernel_of self.now) p) }
     {
-        match self.flight(p) {
-            None => Ok(Vec::new(self.setting.alloc)),
-            Some(flight) => match &flight.graft {
-                None => base_of(&self.setting, &self.store, p, &flight.stage),
-                Some(_) => self.needs_at(p, self.trace(p)),
-            },
-        }
+        let mut needs = no_needs(self.setting.alloc)?;
+        self.put_needs(p, &mut needs)?;
+        Ok(needs)
     }
 
     /// The number of the holder's call, or none for a user lock.
@@ -320,18 +391,41 @@ impl Run {
         }
     }
 
-    /// What hinders the next step of the call of a process.
-    fn hindered(&self, p: u8) -> Result<Option<Hindrance>, NoMemory>
+    /// What hinders the next step of the call of a process. Its needs are put into `needs`.
+    fn hindered(
+        &self,
+        holders: &[u8],
+        p: u8,
+        needs: &mut Vec<Need>,
+    ) -> Result<Option<Hindrance>, NoMemory>
         requires kept { AreKept self.now }
+        requires all { AreHolders (kernel_of self.now) holders.now }
         ensures { IfOk result (λ h. option_map hindrance_of h ≡ locks.first_hindrance
             (blocking.holds all_calls (kernel_of self.now))
             (objects_of self.now.store).things.lock p
             (steps.lock_user p (blocking.levels_of all_calls (kernel_of self.now) p))
             (blocking.needs all_calls (kernel_of self.now) p)) }
     {
-        let needs = self.needs(p)?;
+        self.put_needs(p, needs)?;
         let q = lock_user(p, self.levels(p));
-        Ok(self.first_hindrance(p, q, needs.as_slice()))
+        Ok(self.first_hindrance(holders, p, q, needs.as_slice()))
+    }
+
+    /// What blocks the next step of the call of a process, where these are the processes whose call
+    /// has a level. Its needs are put into `needs`.
+    pub(crate) fn blocker_among(
+        &self,
+        holders: &[u8],
+        p: u8,
+        needs: &mut Vec<Need>,
+    ) -> Result<Option<Blocker>, NoMemory>
+        requires kept { AreKept self.now }
+        requires all { AreHolders (kernel_of self.now) holders.now }
+        ensures { IfOk result (λ b. option_map blocker_of b
+            ≡ blocking.blocker all_calls (kernel_of self.now) p) }
+    {
+        let hindrance = self.hindered(holders, p, needs)?;
+        Ok(self.blocker_by(hindrance))
     }
 
     /// What blocks the next step of the call of a process.
@@ -340,7 +434,9 @@ impl Run {
         ensures { IfOk result (λ b. option_map blocker_of b
             ≡ blocking.blocker all_calls (kernel_of self.now) p) }
     {
-        let hindrance = self.hindered(p)?;
-        Ok(self.blocker_by(hindrance))
+        let mut needs = no_needs(self.setting.alloc)?;
+        let holders = self.holders()?;
+        let blocker = self.blocker_among(holders.as_slice(), p, &mut needs)?;
+        Ok(blocker)
     }
 }

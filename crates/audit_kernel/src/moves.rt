@@ -5,12 +5,15 @@ ghost use Rattle.kernel_model.specs.AllCalls.{all_calls};
 ghost use Rattle.kernel_model.specs.Blocking as blocking;
 ghost use Rattle.kernel_model.specs.Kernel as model;
 ghost use Rattle.kernel_model.specs.Settle as rules;
+ghost use Rattle.audit_kernel.specs.Holders.{AreHolders};
 ghost use Rattle.audit_kernel.specs.Runs.{kernel_of, run_of, waiter_of, AreKept};
 
+use crate::flights::no_needs;
 use crate::order::{join, requeue, with_blocker};
 use crate::{Run, Waiter};
 use audit_table::put_last;
-use kernel_model::{NoMemory, Note};
+use kernel_model::{Need, NoMemory, Note};
+use std::mem::swap;
 
 /// How many steps settling takes at most.
 const MOST_STEPS: u32 = 256;
@@ -69,9 +72,16 @@ impl Run {
         Ok(())
     }
 
-    /// These entries with their blockers come behind others.
-    fn rest_all(&self, entries: &[Waiter], order: &mut Vec<Waiter>) -> Result<(), NoMemory>
+    /// These entries with their blockers come behind others. What calls need is put into `needs`.
+    fn rest_all(
+        &self,
+        holders: &[u8],
+        entries: &[Waiter],
+        order: &mut Vec<Waiter>,
+        needs: &mut Vec<Need>,
+    ) -> Result<(), NoMemory>
         requires kept { AreKept self.now }
+        requires all { AreHolders (kernel_of self.now) holders.now }
         ensures { OnOk result (map waiter_of order.new.items ≡ map waiter_of order.old.items
             ++ rules.order_in all_calls (kernel_of self.now)
             (blocking.holds all_calls (kernel_of self.now)) (map waiter_of entries.now)) }
@@ -79,9 +89,9 @@ impl Run {
         match entries {
             [] => Ok(()),
             [e, rest @ ..] => {
-                let blocker = self.blocker(e.process)?;
+                let blocker = self.blocker_among(holders, e.process, needs)?;
                 put_last(order, with_blocker(*e, blocker))?;
-                self.rest_all(rest, order)?;
+                self.rest_all(holders, rest, order, needs)?;
                 Ok(())
             }
         }
@@ -94,15 +104,29 @@ impl Run {
         ensures kept { OnOk result (AreKept self.new) }
     {
         let mut order = Vec::new(self.setting.alloc);
-        self.rest_all(self.order.as_slice(), &mut order)?;
+        let mut needs = Vec::new(self.setting.alloc);
+        let holders = self.holders()?;
+        self.rest_all(
+            holders.as_slice(),
+            self.order.as_slice(),
+            &mut order,
+            &mut needs,
+        )?;
         self.order = order;
         Ok(())
     }
 
     /// The first of these entries that nothing blocks. Where each is blocked, the entries with their
-    /// blockers come behind others.
-    fn first_of(&self, entries: &[Waiter], order: &mut Vec<Waiter>) -> Result<Option<u8>, NoMemory>
+    /// blockers come behind others. What calls need is put into `needs`.
+    fn first_of(
+        &self,
+        holders: &[u8],
+        entries: &[Waiter],
+        order: &mut Vec<Waiter>,
+        needs: &mut Vec<Need>,
+    ) -> Result<Option<u8>, NoMemory>
         requires kept { AreKept self.now }
+        requires all { AreHolders (kernel_of self.now) holders.now }
         ensures free { IfOk result (λ p. p ≡ rules.first_free_in all_calls (kernel_of self.now)
             (blocking.holds all_calls (kernel_of self.now)) (map waiter_of entries.now)) }
         ensures rested { IfOk result (λ p. p ≡ None →
@@ -112,11 +136,11 @@ impl Run {
     {
         match entries {
             [] => Ok(None),
-            [e, rest @ ..] => match self.blocker(e.process)? {
+            [e, rest @ ..] => match self.blocker_among(holders, e.process, needs)? {
                 None => Ok(Some(e.process)),
                 Some(b) => {
                     put_last(order, with_blocker(*e, Some(b)))?;
-                    let free = self.first_of(rest, order)?;
+                    let free = self.first_of(holders, rest, order, needs)?;
                     Ok(free)
                 }
             },
@@ -124,7 +148,12 @@ impl Run {
     }
 
     /// The first in the order that nothing blocks. Where each is blocked, each keeps its blocker.
-    fn first_free(&mut self) -> Result<Option<u8>, NoMemory>
+    /// `order` and `needs` are rooms to work in.
+    fn first_free(
+        &mut self,
+        order: &mut Vec<Waiter>,
+        needs: &mut Vec<Need>,
+    ) -> Result<Option<u8>, NoMemory>
         requires kept { AreKept self.old }
         ensures free { IfOk result (λ p. p ≡ rules.first_free all_calls (kernel_of self.old)
             (map waiter_of self.old.order.items)) }
@@ -134,10 +163,11 @@ impl Run {
             run_of self.new ≡ run_of self.old) }
         ensures kept { IfOk result (λ p. AreKept self.new) }
     {
-        let mut order = Vec::new(self.setting.alloc);
-        match self.first_of(self.order.as_slice(), &mut order)? {
+        order.clear();
+        let holders = self.holders()?;
+        match self.first_of(holders.as_slice(), self.order.as_slice(), order, needs)? {
             None => {
-                self.order = order;
+                swap(&mut self.order, order);
                 Ok(None)
             }
             Some(p) => Ok(Some(p)),
@@ -151,8 +181,10 @@ impl Run {
             ≡ rules.settle all_calls most (run_of self.old)) }
         ensures kept { OnOk result (AreKept self.new) }
     {
+        let mut order = Vec::new(self.setting.alloc);
+        let mut needs = no_needs(self.setting.alloc)?;
         for turn in 0..most {
-            match self.first_free()? {
+            match self.first_free(&mut order, &mut needs)? {
                 None => return Ok(()),
                 Some(p) => self.step(p)?,
             }

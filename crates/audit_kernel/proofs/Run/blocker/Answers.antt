@@ -1,11 +1,8 @@
-use Rattle.std.proofs.Common.{Option, option_map, ap, ◌∙◌}
-use Rattle.kernel_model.specs.Locks.{Hindrance}
-use Rattle.kernel_model.specs.Blocking.{blocker_from}
 use Rattle.audit_kernel.specs.Runs.{kernel_of}
+use Rattle.audit_kernel.proofs.Holding.{same_list}
 use Rattle.audit_kernel.proofs.Run.blocker.Goals as goal
 
-pub returns : goal.returns
-returns c =
-    c.blocker_by.ensures
-    ∙ ap (λ (h : Option Hindrance). option_map (blocker_from (kernel_of c.args.self.now)) h)
-    c.in_ok-hindrance.ensures
+pub blocker_among-requires-clause-all : goal.blocker_among-requires-clause-all
+blocker_among-requires-clause-all c =
+    same_list (kernel_of c.args.self.now) c.in_ok-holders.holders.items c.as_slice.result.now
+    c.as_slice.ensures.value c.in_ok-holders.ensures

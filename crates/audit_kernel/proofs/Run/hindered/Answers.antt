@@ -20,4 +20,4 @@ returns c =
     ∙ ap (λ (q : ℕ). first_hindrance locks users p q c.as_slice.result.now)
     (c.lock_user-q.ensures (page_of r.store) ∙ ap (λ (ls : List Level). lock_user p ls) c.levels.ensures)
     ∙ ap (λ (ns : List Need). first_hindrance locks users p (lock_user p (blocking.levels_of all_calls k p)) ns)
-    (c.as_slice.ensures.value ∙ c.in_ok-needs.ensures)
+    (c.as_slice.ensures.value ∙ c.in_ok-put_needs.ensures)

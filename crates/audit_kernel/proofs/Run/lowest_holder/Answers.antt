@@ -1,24 +1,15 @@
-use Rattle.std.proofs.Common.{ℕ, Bool, ◌==◌, ◌&&◌, not, refl, sym, ◌∙◌}
+use Rattle.std.proofs.Common.{ℕ, Bool, ◌==◌, ◌&&◌, not, ◌∙◌}
 use Rattle.kernel_model.specs.AllCalls.{all_calls}
 use Rattle.kernel_model.specs.Locks.{hinders}
 use Rattle.kernel_model.specs.Blocking.{holds}
 use Rattle.audit_kernel.specs.Runs.{kernel_of}
-use Rattle.audit_kernel.proofs.Holding.{found_here, found_behind}
+use Rattle.audit_kernel.proofs.Holding.{bare_holds_nothing}
 use Rattle.audit_kernel.proofs.Run.lowest_holder.Goals as goal
 
-pub loop-q-init : goal.loop-q-init
-loop-q-init c = refl
-
-pub loop-q-preserved : goal.loop-q-preserved
-loop-q-preserved c =
-    let test : ℕ → Bool = λ q. not (q == c.args.p)
-    && hinders c.args.object c.args.mode (holds all_calls (kernel_of c.args.self.now) q) in
-    sym (found_behind test c.loop-q.q c.loop-q-test.true (sym c.is_holder.ensures ∙ c.if-is_holder.false))
-    ∙ c.loop-q.invariant
-
-pub returns-then-is_holder : goal.returns-then-is_holder
-returns-then-is_holder c =
-    let test : ℕ → Bool = λ q. not (q == c.args.p)
-    && hinders c.args.object c.args.mode (holds all_calls (kernel_of c.args.self.now) q) in
-    sym (found_here test c.loop-q.q c.loop-q-test.true (sym c.is_holder.ensures ∙ c.if-is_holder.true))
-    ∙ c.loop-q.invariant
+pub returns : goal.returns
+returns c =
+    let k = kernel_of c.args.self.now in
+    let a = c.args in
+    c.first_holder.ensures
+    ∙ c.requires.all (λ q. not (q == a.p) && hinders a.object a.mode (holds all_calls k q))
+    (λ q bare. bare_holds_nothing k a.p q a.object a.mode bare)
