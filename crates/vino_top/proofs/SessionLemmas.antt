@@ -1,6 +1,6 @@
 -- What the lines and the entries of a session make of it.
 use Rattle.std.proofs.Common.{length, codes, decimal, is_some, Result, Ok, Err, ◌≡◌, ℕ, suc, ◌+◌}
-use Rattle.std.proofs.Common.{◌++◌, ◌∙◌, true, false, Bool, List, [], ◌∷◌, Some, Option, arith}
+use Rattle.std.proofs.Common.{◌++◌, ◌∙◌, true, false, Bool, List, [], ◌∷◌, None, Some, Option, arith}
 use Rattle.std.proofs.Common.{refl, sym, ap, subst, add-one}
 use Rattle.std.specs.Prelude.{OnOk, slice_index_or, replicate, zero, nat_lt, ◌<◌, ◌≤◌}
 use Rattle.std.proofs.lemmas.Bool.Decides.{nat_tests}
